@@ -1,0 +1,3 @@
+// Methods: how units are worked out where no reading counts.
+pub mod finding;
+pub mod method;

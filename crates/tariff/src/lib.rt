@@ -1,0 +1,2 @@
+// Tariffs: what a supplier charges.
+pub mod tariff;
