@@ -1,0 +1,7 @@
+// One tenant's account.
+pub mod account;
+pub mod answer;
+pub mod asking;
+pub mod holding;
+pub mod opening;
+pub mod paying;
