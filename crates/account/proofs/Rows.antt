@@ -52,12 +52,12 @@ abbrev pub made-of : {T : Type 0} → Account T → (hold row : ℕ) → law.Row
 made-of a hold place r = made a (rows-of (pages-of (a .sheet)) ++ (r ∷ [])) (bill-line hold place (pos (r .cents)) ∷ []) (billed-by (totals (a .sums)) (r .cents))
 
 -- a row entered is what a bill or an estimate does
-pub entered-is : {T : Type 0} (t : Tariff) (a : Account T) (hold : ℕ) (r : law.Row) (p : Period) → r ≡ law.row-of t p → made-of a hold (a .sheet .filled) r ≡ bill-row t (state-of a) hold p
-entered-is t a hold r p e = ap (made-of a hold (a .sheet .filled)) e ∙ ap (λ n. made-of a hold n (law.row-of t p)) (sym (rows-length a))
+pub entered-is : {T : Type 0} (t : Tariff) (a : Account T) (hold hold′ : ℕ) (r : law.Row) (p : Period) → hold ≡ hold′ → r ≡ law.row-of t p → made-of a hold (a .sheet .filled) r ≡ bill-row t (state-of a) hold′ p
+entered-is t a hold hold′ r p h e = ap₂ (λ k x. made-of a k (a .sheet .filled) x) h e ∙ ap (λ n. made-of a hold′ n (law.row-of t p)) (sym (rows-length a))
 
 abbrev pub rowed : (first last : ℕ) → Registers → ℕ → law.Row
 rowed first last r cents = record { period = metered first last r; cents = cents }
 
 -- a row that is read
-pub read-row : (t : Tariff) (first last : ℕ) (r : Registers) (cents first′ : ℕ) (r′ : Registers) → first ≡ first′ → r ≡ r′ → cents ≡ charge-on t last r → rowed first last r cents ≡ law.row-of t (metered first′ last r′)
-read-row t first last r cents first′ r′ a b c = ap₂ (λ x y. rowed x last r y) a c ∙ ap (λ z. rowed first′ last z (charge-on t last z)) b
+pub read-row : (t : Tariff) (first last : ℕ) (r : Registers) (cents first′ last′ : ℕ) (r′ : Registers) → first ≡ first′ → last ≡ last′ → r ≡ r′ → cents ≡ charge-on t last r → rowed first last r cents ≡ law.row-of t (metered first′ last′ r′)
+read-row t first last r cents first′ last′ r′ a b c d = ap (rowed first last r) d ∙ ap₂ (λ x y. rowed x y r (charge-on t y r)) a b ∙ ap (λ z. rowed first′ last′ z (charge-on t last′ z)) c

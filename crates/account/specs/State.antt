@@ -2,7 +2,7 @@
 use mathlib.Core.Path.{_≡_}
 use mathlib.Core.Bool.{Bool, cond}
 use mathlib.Core.List.{List, [], _∷_, map}
-use Prim.Native.Nat.{ℕ}
+use Prim.Native.Nat.{ℕ, _+_, _≤_, _<_}
 use lib.IntN.{ℤ, pos}
 use lib.ListN.{length, take, drop}
 use denote.Ref.{now}
@@ -55,6 +55,11 @@ abbrev pub Lawful-after : {T : Type 0} (mean : T → Tariff) (a b : Account T) (
 Lawful-after mean a b c =
     (h : List Call) → state-of a ≡ after (mean (a .tariff)) (opening-of a) h →
     (state-of b ≡ after (mean (b .tariff)) (opening-of b) (c ∷ h)) × law.Law (mean (b .tariff)) (opening-of b) (c ∷ h) (shown (state-of b))
+
+-- sheet and journal each have a place
+pub record Roomy {T : Type 0} (a : Account T) : Type 0 where
+  pub sheet : a .sheet .filled < a .sheet .limit
+  pub journal : a .journal .filled + 1 ≤ a .journal .limit
 
 -- b is a with these rows, these lines more and these sums; its holds and its tariff's meaning are the same, and past the filled parts nothing is changed
 pub record Changed {T : Type 0} (mean : T → Tariff) (a b : Account T) (rs : List law.Row) (ls : List law.Line) (t : Totals) : Type 0 where
