@@ -47,6 +47,10 @@ lines-length a = let s = a .«journal_sound» in let l = a .«journal_limit» in
 pub rows-length : {T : Type 0} (a : Account T) → length (rows-of (pages-of (a .sheet))) ≡ a .sheet .filled
 rows-length a = let s = a .«sheet_sound» in let l = a .«sheet_limit» in taken-length seen (a .sheet .filled) (now (a .sheet .memory)) (omega arith)
 
+-- a sheet has at most 120 rows
+pub rows-few : {T : Type 0} (a : Account T) (rows : List Row) → map seen rows ≡ state-of a .rows → length rows ≤ 120
+rows-few a rows e = let s = a .«sheet_sound» in let l = a .«sheet_limit» in omega (arith, sym (length-map rows seen) ∙ ap length e ∙ rows-length a)
+
 pub periods-length : {T : Type 0} (a : Account T) → length (periods-of (state-of a)) ≡ a .sheet .filled
 periods-length a = length-map (rows-of (pages-of (a .sheet))) _ ∙ rows-length a
 
@@ -83,6 +87,17 @@ pass b rest a x e k = cond-true b rest a e ∙ k
 
 pub stop : (b : Bool) (rest a : ℕ) → b ≡ false → cond b rest a ≡ a
 stop b rest a e = cond-false b rest a e
+
+-- questions, and then others
+pub more-asked : (qs rest : List (ℕ × Bool)) (q : ℕ) → 1 ≤ q → first-no qs ≡ q → first-no (qs ++ rest) ≡ q
+more-asked [] rest q h e = absurd (omega (arith, e))
+more-asked ((n, true) ∷ qs) rest q h e = more-asked qs rest q h e
+more-asked ((n, false) ∷ qs) rest q h e = e
+
+pub all-asked : (qs rest : List (ℕ × Bool)) (q : ℕ) → numbered-from-one qs ≡ true → first-no qs ≡ 0 → first-no rest ≡ q → first-no (qs ++ rest) ≡ q
+all-asked [] rest q h e k = k
+all-asked ((n, true) ∷ qs) rest q h e k = all-asked qs rest q (and-parts _ _ h .1) e k
+all-asked ((n, false) ∷ qs) rest q h e k = absurd (omega (arith, e, leb-true 1 n (and-parts _ _ h .0)))
 
 -- a question that breaks off, at the exit of a `?`
 pub asked-err : {X : Type 0} (made : X → Type 0) (q : ℕ) (r : Result X Refusal) (e : Refusal) → ErrBy r (λ y. y ≡ e) → q ≡ number-of e → Asked q made r
