@@ -1,1 +1,4 @@
+pub mod Making
+pub mod Meaning
+pub mod Meant
 pub mod Uses

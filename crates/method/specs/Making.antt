@@ -1,0 +1,25 @@
+-- The questions that the making of a method asks, by their numbers. Assumes nothing.
+use mathlib.Core.Bool.{Bool, _&&_}
+use mathlib.Core.List.{List, [], _∷_}
+use Prim.Native.Nat.{ℕ, _+_, _-_, _*_}
+use lib.Dec.{leb, ltb}
+use Rattle.method.specs.declared.fault.MethodFault.{MethodFault}
+use Rattle.method.specs.declared.fault.MethodFault.the-variants.{Figures, NoTest, NoMeter, TooClose}
+
+abbrev pub number-of : MethodFault → ℕ
+number-of Figures = 2
+number-of NoTest = 13
+number-of NoMeter = 14
+number-of TooClose = 15
+
+-- how far two numbers are apart
+abbrev pub apart : ℕ → ℕ → ℕ
+apart m n = (m - n) + (n - m)
+
+-- 15: the meter is off by more than a fortieth, 2.5 per cent, of what the test meter showed
+abbrev pub test-asked : (shown tested : ℕ) → List (ℕ × Bool)
+test-asked shown tested =
+    (2, leb shown 1000000 && leb tested 1000000)
+    ∷ (13, ltb 0 tested)
+    ∷ (14, ltb 0 shown)
+    ∷ (15, ltb tested (40 * apart shown tested)) ∷ []

@@ -1,0 +1,50 @@
+-- What each method means, over its figures; they are in their limits. Assumes nothing.
+use mathlib.Core.Bool.{Bool, true, false}
+use Prim.Native.Nat.{ℕ, _*_, _≤_}
+use native.Mathlib.Nat.{mul-le-mul}
+use native.Mathlib.Omega.{arith}
+use lib.Dec.{ltb}
+use Rattle.rules.specs.Subject.{Registers, In-limits, Register, day-units, peak-units, Use, estimates, correcting, absent, under, over, stopped, altered, Method}
+
+abbrev pub units : Register → Registers → ℕ
+units day-units r = r .day
+units peak-units r = r .peak
+
+pub units-most : (k : Register) (r : Registers) → In-limits r → units k r ≤ 1000000
+units-most day-units r l = l .day
+units-most peak-units r l = l .peak
+
+-- under- and over-registering
+abbrev pub measured : Use → Bool
+measured estimates = false
+measured (correcting absent) = false
+measured (correcting under) = true
+measured (correcting over) = true
+measured (correcting stopped) = false
+measured (correcting altered) = false
+
+-- the meter ran under if it showed less than the test meter, over if more
+abbrev pub test-fits : (shown tested : ℕ) → Use → Bool
+test-fits shown tested estimates = false
+test-fits shown tested (correcting absent) = false
+test-fits shown tested (correcting under) = ltb shown tested
+test-fits shown tested (correcting over) = ltb tested shown
+test-fits shown tested (correcting stopped) = false
+test-fits shown tested (correcting altered) = false
+
+-- the recorded units, times what the test meter showed over what the meter did
+abbrev pub by-test : (shown tested : ℕ) → 1 ≤ shown → shown ≤ 1000000 → tested ≤ 1000000 → Method
+by-test shown tested shown-least shown-most tested-most = record {
+  serves = measured;
+  fits = λ u first last. test-fits shown tested u;
+  upper = λ k. tested;
+  lower = shown;
+  weight = λ k days r. units k r;
+  demand = λ days r. r .demand;
+  lower-least = shown-least;
+  lower-most = omega (arith, shown-most);
+  upper-most = λ k. omega (arith, tested-most);
+  weight-most = λ k days r d l. omega (arith, units-most k r l);
+  product-most = λ k days r d l. omega (arith, mul-le-mul (units-most k r l) tested-most);
+  demand-most = λ days r d l. l .demand;
+}

@@ -1,0 +1,7 @@
+-- What the methods of the code mean. Assumes nothing.
+use Rattle.rules.specs.Subject.{Method}
+use Rattle.method.specs.declared.test_meter.TestMeter.{TestMeter}
+use Rattle.method.specs.Meaning.{by-test}
+
+abbrev pub test-of : TestMeter → Method
+test-of m = by-test (m .shown .kwh) (m .tested .kwh) (m .turned) (m .shown .ok) (m .tested .ok)
