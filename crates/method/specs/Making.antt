@@ -23,3 +23,6 @@ test-asked shown tested =
     ∷ (13, ltb 0 tested)
     ∷ (14, ltb 0 shown)
     ∷ (15, ltb tested (40 * apart shown tested)) ∷ []
+
+abbrev pub category-asked : (figure s demand : ℕ) → List (ℕ × Bool)
+category-asked figure s demand = (2, leb figure 1000000 && leb s 100 && leb demand 10000) ∷ []

@@ -1,9 +1,9 @@
 -- What each method means, over its figures; they are in their limits. Assumes nothing.
 use mathlib.Core.Bool.{Bool, true, false}
-use Prim.Native.Nat.{ℕ, _*_, _≤_}
+use Prim.Native.Nat.{ℕ, _-_, _*_, _≤_}
 use native.Mathlib.Nat.{mul-le-mul}
 use native.Mathlib.Omega.{arith}
-use lib.Dec.{ltb}
+use lib.Dec.{ltb, lit≤}
 use Rattle.rules.specs.Subject.{Registers, In-limits, Register, day-units, peak-units, Use, estimates, correcting, absent, under, over, stopped, altered, Method}
 
 abbrev pub units : Register → Registers → ℕ
@@ -47,4 +47,35 @@ by-test shown tested shown-least shown-most tested-most = record {
   weight-most = λ k days r d l. omega (arith, units-most k r l);
   product-most = λ k days r d l. omega (arith, mul-le-mul (units-most k r l) tested-most);
   demand-most = λ days r d l. l .demand;
+}
+
+-- a register's part of a hundred, where s is the share of the peak
+abbrev pub part : Register → (s : ℕ) → ℕ
+part day-units s = 100 - s
+part peak-units s = s
+
+pub part-most : (k : Register) (s : ℕ) → s ≤ 100 → part k s ≤ 100
+part-most day-units s h = omega arith
+part-most peak-units s h = h
+
+-- estimates alone
+abbrev pub estimating : Use → Bool
+estimating estimates = true
+estimating (correcting c) = false
+
+-- a figure of units for 30 days, shared by days
+abbrev pub by-category : (figure s demand : ℕ) → figure ≤ 1000000 → s ≤ 100 → demand ≤ 10000 → Method
+by-category figure s demand figure-most s-most demand-most = record {
+  serves = estimating;
+  fits = λ u first last. true;
+  upper = λ k. figure * part k s;
+  lower = 3000;
+  weight = λ k days r. days;
+  demand = λ days r. demand;
+  lower-least = lit≤ tt;
+  lower-most = lit≤ tt;
+  upper-most = λ k. omega (arith, mul-le-mul figure-most (part-most k s s-most));
+  weight-most = λ k days r d l. omega (arith, d);
+  product-most = λ k days r d l. omega (arith, mul-le-mul d (mul-le-mul figure-most (part-most k s s-most)));
+  demand-most = λ days r d l. demand-most;
 }

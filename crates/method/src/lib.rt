@@ -1,6 +1,8 @@
 // Methods: how units are worked out where no reading counts.
 pub mod by_test;
+pub mod category;
 pub mod fault;
 pub mod finding;
+pub mod limits;
 pub mod method;
 pub mod test_meter;
