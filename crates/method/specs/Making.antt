@@ -26,3 +26,7 @@ test-asked shown tested =
 
 abbrev pub category-asked : (figure s demand : ℕ) → List (ℕ × Bool)
 category-asked figure s demand = (2, leb figure 1000000 && leb s 100 && leb demand 10000) ∷ []
+
+abbrev pub contract-asked : (kva utilization power load s : ℕ) → List (ℕ × Bool)
+contract-asked kva utilization power load s =
+    (2, leb kva 1000 && leb utilization 100 && leb power 100 && leb load 100 && leb s 100) ∷ []

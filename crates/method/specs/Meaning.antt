@@ -1,7 +1,7 @@
 -- What each method means, over its figures; they are in their limits. Assumes nothing.
 use mathlib.Core.Bool.{Bool, true, false}
-use Prim.Native.Nat.{ℕ, _-_, _*_, _≤_}
-use native.Mathlib.Nat.{mul-le-mul}
+use Prim.Native.Nat.{ℕ, _+_, _-_, _*_, _/_, _≤_}
+use native.Mathlib.Nat.{mul-le-mul, mul-le-mul-right}
 use native.Mathlib.Omega.{arith}
 use lib.Dec.{ltb, lit≤}
 use Rattle.rules.specs.Subject.{Registers, In-limits, Register, day-units, peak-units, Use, estimates, correcting, absent, under, over, stopped, altered, Method}
@@ -78,4 +78,40 @@ by-category figure s demand figure-most s-most demand-most = record {
   weight-most = λ k days r d l. omega (arith, d);
   product-most = λ k days r d l. omega (arith, mul-le-mul d (mul-le-mul figure-most (part-most k s s-most)));
   demand-most = λ days r d l. demand-most;
+}
+
+-- altered meters alone
+abbrev pub altering : Use → Bool
+altering estimates = false
+altering (correcting absent) = false
+altering (correcting under) = false
+altering (correcting over) = false
+altering (correcting stopped) = false
+altering (correcting altered) = true
+
+-- the units of a day, in millionths of a kWh, since three factors are in per cent
+abbrev pub daily : (kva utilization power load : ℕ) → ℕ
+daily kva utilization power load = kva * 24 * utilization * power * load
+
+pub daily-most : {kva utilization power load : ℕ} → kva ≤ 1000 → utilization ≤ 100 → power ≤ 100 → load ≤ 100 → daily kva utilization power load ≤ 24000000000
+daily-most a b c d = mul-le-mul (mul-le-mul (mul-le-mul (mul-le-mul-right 24 a) b) c) d
+
+pub utilized-most : {kva utilization : ℕ} → kva ≤ 1000 → utilization ≤ 100 → (kva * utilization + 99) / 100 ≤ 10000
+utilized-most a b = omega (arith, mul-le-mul a b)
+
+-- a contract demand in kVA for 24 hours at three factors, shared by days; the demand is what is utilized of it, rounded up
+abbrev pub by-contract : (kva utilization power load s : ℕ) → kva ≤ 1000 → utilization ≤ 100 → power ≤ 100 → load ≤ 100 → s ≤ 100 → Method
+by-contract kva utilization power load s kva-most utilization-most power-most load-most s-most = record {
+  serves = altering;
+  fits = λ u first last. true;
+  upper = λ k. daily kva utilization power load * part k s;
+  lower = 100000000;
+  weight = λ k days r. days;
+  demand = λ days r. (kva * utilization + 99) / 100;
+  lower-least = lit≤ tt;
+  lower-most = lit≤ tt;
+  upper-most = λ k. omega (arith, mul-le-mul (daily-most kva-most utilization-most power-most load-most) (part-most k s s-most));
+  weight-most = λ k days r d l. omega (arith, d);
+  product-most = λ k days r d l. omega (arith, mul-le-mul d (mul-le-mul (daily-most kva-most utilization-most power-most load-most) (part-most k s s-most)));
+  demand-most = λ days r d l. utilized-most kva-most utilization-most;
 }

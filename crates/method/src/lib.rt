@@ -1,6 +1,7 @@
 // Methods: how units are worked out where no reading counts.
 pub mod by_test;
 pub mod category;
+pub mod contract_demand;
 pub mod fault;
 pub mod finding;
 pub mod limits;
