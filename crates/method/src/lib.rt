@@ -6,4 +6,6 @@ pub mod fault;
 pub mod finding;
 pub mod limits;
 pub mod method;
+pub mod reckoning;
 pub mod test_meter;
+pub mod three_rows;
