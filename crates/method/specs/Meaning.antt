@@ -3,7 +3,7 @@ use mathlib.Core.Bool.{Bool, true, false}
 use Prim.Native.Nat.{ℕ, _+_, _-_, _*_, _/_, _≤_}
 use native.Mathlib.Nat.{mul-le-mul, mul-le-mul-right}
 use native.Mathlib.Omega.{arith}
-use lib.Dec.{ltb, lit≤}
+use lib.Dec.{eqb, ltb, lit≤}
 use Rattle.rules.specs.Subject.{Registers, In-limits, Register, day-units, peak-units, Use, estimates, correcting, absent, under, over, stopped, altered, Method}
 
 abbrev pub units : Register → Registers → ℕ
@@ -115,3 +115,55 @@ by-contract kva utilization power load s kva-most utilization-most power-most lo
   product-most = λ k days r d l. omega (arith, mul-le-mul d (mul-le-mul (daily-most kva-most utilization-most power-most load-most) (part-most k s s-most)));
   demand-most = λ days r d l. utilized-most kva-most utilization-most;
 }
+
+-- stopped meters alone
+abbrev pub stopping : Use → Bool
+stopping estimates = false
+stopping (correcting absent) = false
+stopping (correcting under) = false
+stopping (correcting over) = false
+stopping (correcting stopped) = true
+stopping (correcting altered) = false
+
+-- absent readings and stopped meters
+abbrev pub missing : Use → Bool
+missing estimates = false
+missing (correcting absent) = true
+missing (correcting under) = false
+missing (correcting over) = false
+missing (correcting stopped) = true
+missing (correcting altered) = false
+
+abbrev pub of-both : (day peak : ℕ) → Register → ℕ
+of-both day peak day-units = day
+of-both day peak peak-units = peak
+
+pub of-both-most : (day peak : ℕ) → day ≤ 3000000 → peak ≤ 3000000 → (k : Register) → of-both day peak k ≤ 3000000
+of-both-most day peak h l day-units = h
+of-both-most day peak h l peak-units = l
+
+-- the units that three rows have in their days, shared by days
+module _ (day peak day-count demand : ℕ) (day-most : day ≤ 3000000) (peak-most : peak ≤ 3000000) (days-least : 1 ≤ day-count) (days-most : day-count ≤ 300) (demand-in : demand ≤ 10000) where
+  abbrev pub by-three : (Use → Bool) → (Use → ℕ → ℕ → Bool) → Method
+  by-three uses fitness = record {
+    serves = uses;
+    fits = fitness;
+    upper = of-both day peak;
+    lower = day-count;
+    weight = λ k days r. days;
+    demand = λ days r. demand;
+    lower-least = days-least;
+    lower-most = omega (arith, days-most);
+    upper-most = λ k. omega (arith, of-both-most day peak day-most peak-most k);
+    weight-most = λ k days r d l. omega (arith, d);
+    product-most = λ k days r d l. omega (arith, mul-le-mul d (of-both-most day peak day-most peak-most k));
+    demand-most = λ days r d l. demand-in;
+  }
+
+-- the previous three, rows f to f + 2, fit where the span begins just after them
+abbrev pub just-before : (f : ℕ) → Use → (first last : ℕ) → Bool
+just-before f u first last = eqb (f + 3) first
+
+-- the later three fit where the span ends just before them
+abbrev pub just-after : (f : ℕ) → Use → (first last : ℕ) → Bool
+just-after f u first last = eqb f (last + 1)

@@ -1,9 +1,14 @@
 -- What the methods of the code mean. Assumes nothing.
-use Rattle.rules.specs.Subject.{Method}
+use mathlib.Core.Bool.{Bool}
+use Prim.Native.Nat.{ℕ}
+use Rattle.rules.specs.Subject.{Use, Method}
 use Rattle.method.specs.declared.test_meter.TestMeter.{TestMeter}
 use Rattle.method.specs.declared.category.Category.{Category}
 use Rattle.method.specs.declared.contract_demand.ContractDemand.{ContractDemand}
-use Rattle.method.specs.Meaning.{by-test, by-category, by-contract}
+use Rattle.method.specs.declared.three_rows.ThreeRows.{ThreeRows}
+use Rattle.method.specs.declared.by_rows.PreviousThree.{PreviousThree}
+use Rattle.method.specs.declared.by_rows.LaterThree.{LaterThree}
+use Rattle.method.specs.Meaning.{by-test, by-category, by-contract, by-three, stopping, missing, just-before, just-after}
 
 abbrev pub test-of : TestMeter → Method
 test-of m = by-test (m .shown .kwh) (m .tested .kwh) (m .turned) (m .shown .ok) (m .tested .ok)
@@ -15,3 +20,12 @@ abbrev pub contract-of : ContractDemand → Method
 contract-of m =
     by-contract (m .contract .kva) (m .utilization .value) (m .power .value) (m .load .value) (m .peak .value)
     (m .contract .ok) (m .utilization .ok) (m .power .ok) (m .load .ok) (m .peak .ok)
+
+abbrev pub three-of : ThreeRows → (Use → Bool) → (Use → ℕ → ℕ → Bool) → Method
+three-of t = by-three (t .day) (t .peak) (t .days) (t .demand .kva) (t .«day_most») (t .«peak_most») (t .«days_least») (t .«days_most») (t .demand .ok)
+
+abbrev pub previous-of : PreviousThree → Method
+previous-of m = three-of (m .three) stopping (just-before (m .three .from))
+
+abbrev pub later-of : LaterThree → Method
+later-of m = three-of (m .three) missing (just-after (m .three .from))

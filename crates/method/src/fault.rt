@@ -13,6 +13,10 @@ pub enum MethodFault {
     NoMeter,
     /// The meter is within 2.5 per cent of the test meter.
     TooClose,
+    /// Three rows are not billed, or not read.
+    NotRead,
+    /// Three rows have no units.
+    NoUnits,
 }
 
 pub impl From<OutOfLimits> for MethodFault as FiguresFault {

@@ -1,4 +1,5 @@
 // Methods: how units are worked out where no reading counts.
+pub mod by_rows;
 pub mod by_test;
 pub mod category;
 pub mod contract_demand;

@@ -2,13 +2,15 @@
 ghost use mathlib.Core.List.{[], _∷_, map};
 ghost use mathlib.Core.Path.{_≡_};
 ghost use Rattle.rules.specs.Subject.{is-read};
-ghost use Rattle.figures.specs.View.{sort-of, period-seen};
+ghost use Rattle.figures.specs.View.{sort-of, period-seen, register-of};
+ghost use Rattle.method.specs.Meaning.{of-both};
 ghost use Rattle.method.specs.Three.{three-from};
 ghost use Rattle.method.specs.Reckoned.{Reckoned-from};
 use crate::three_rows::ThreeRows;
 use figures::row::Row;
 use figures::row::Sort;
 use figures::units::Demand;
+use figures::units::Register;
 
 fn is_read(row: Row) -> bool
     ensures { λ r. ⌜ r ≡ is-read (sort-of (row .sort)) ⌝ }
@@ -48,6 +50,16 @@ impl ThreeRows {
         match &rows[from as usize..] {
             [a, b, c, ..] => ThreeRows::of(from, *a, *b, *c),
             _ => None,
+        }
+    }
+
+    /// The recorded units of a register.
+    pub fn units(self, k: Register) -> u64
+        ensures { λ r. ⌜ r ≡ of-both (self .day) (self .peak) (register-of k) ⌝ }
+    {
+        match k {
+            Register::Day => self.day as u64,
+            Register::Peak => self.peak as u64,
         }
     }
 }
