@@ -6,8 +6,8 @@ use Rattle.method.specs.declared.test_meter.TestMeter.{TestMeter}
 use Rattle.method.specs.declared.category.Category.{Category}
 use Rattle.method.specs.declared.contract_demand.ContractDemand.{ContractDemand}
 use Rattle.method.specs.declared.three_rows.ThreeRows.{ThreeRows}
-use Rattle.method.specs.declared.by_rows.PreviousThree.{PreviousThree}
-use Rattle.method.specs.declared.by_rows.LaterThree.{LaterThree}
+use Rattle.method.specs.declared.previous_three.PreviousThree.{PreviousThree}
+use Rattle.method.specs.declared.later_three.LaterThree.{LaterThree}
 use Rattle.method.specs.Meaning.{by-test, by-category, by-contract, by-three, stopping, missing, just-before, just-after}
 
 abbrev pub test-of : TestMeter → Method

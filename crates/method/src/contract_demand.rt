@@ -31,7 +31,13 @@ pub struct ContractDemand {
 }
 
 impl ContractDemand {
-    pub fn new(kva: Kva, utilization: u64, power: u64, load: u64, peak: u64) -> Result<ContractDemand, MethodFault>
+    pub fn new(
+        kva: Kva,
+        utilization: u64,
+        power: u64,
+        load: u64,
+        peak: u64,
+    ) -> Result<ContractDemand, MethodFault>
         ensures { λ r. ⌜ elim r [ Ok m ↦ (first-no (contract-asked (kva .0) utilization power load peak) ≡ 0) × (m .contract .kva ≡ kva .0) × (m .utilization .value ≡ utilization) × (m .power .value ≡ power) × (m .load .value ≡ load) × (m .peak .value ≡ peak) | Err e ↦ first-no (contract-asked (kva .0) utilization power load peak) ≡ number-of e ] ⌝ }
     {
         let contract = Contract::new(kva)?;
@@ -96,7 +102,9 @@ pub impl Method for ContractDemand as ContractDemandMethod {
     fn demand(&self, days: Days, r: Registers) -> Demand {
         let _ = days;
         let _ = r;
-        Demand { kva: (self.contract.kva * self.utilization.value).div_ceil(100) }
+        Demand {
+            kva: (self.contract.kva * self.utilization.value).div_ceil(100),
+        }
     }
 
     fn fits(&self, u: Use, first: u64, last: u64) -> bool {

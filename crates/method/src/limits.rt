@@ -22,7 +22,9 @@ impl Percent {
         if figure > 100 {
             return Err(OutOfLimits);
         }
-        Ok(Percent { value: figure as u32 })
+        Ok(Percent {
+            value: figure as u32,
+        })
     }
 
     /// The register's part, where this is the share of the peak.
@@ -30,7 +32,9 @@ impl Percent {
         ensures { λ r. ⌜ r .value ≡ part (register-of k) (self .value) ⌝ }
     {
         match k {
-            Register::Day => Percent { value: 100 - self.value },
+            Register::Day => Percent {
+                value: 100 - self.value,
+            },
             Register::Peak => self,
         }
     }
@@ -50,6 +54,8 @@ impl Contract {
         if figure.0 > 1_000 {
             return Err(OutOfLimits);
         }
-        Ok(Contract { kva: figure.0 as u32 })
+        Ok(Contract {
+            kva: figure.0 as u32,
+        })
     }
 }
