@@ -6,6 +6,7 @@ use native.Mathlib.Omega.{arith}
 use lib.Dec.{eqb, ltb, lit≤}
 use Rattle.rules.specs.Subject.{Registers, In-limits, Register, day-units, peak-units, Use, estimates, correcting, absent, under, over, stopped, altered, Method}
 
+-- the units of one register
 abbrev pub units : Register → Registers → ℕ
 units day-units r = r .day
 units peak-units r = r .peak
@@ -134,6 +135,7 @@ missing (correcting over) = false
 missing (correcting stopped) = true
 missing (correcting altered) = false
 
+-- what three rows have of one register
 abbrev pub of-both : (day peak : ℕ) → Register → ℕ
 of-both day peak day-units = day
 of-both day peak peak-units = peak
@@ -142,23 +144,22 @@ pub of-both-most : (day peak : ℕ) → day ≤ 3000000 → peak ≤ 3000000 →
 of-both-most day peak h l day-units = h
 of-both-most day peak h l peak-units = l
 
--- the units that three rows have in their days, shared by days
-module _ (day peak day-count demand : ℕ) (day-most : day ≤ 3000000) (peak-most : peak ≤ 3000000) (days-least : 1 ≤ day-count) (days-most : day-count ≤ 300) (demand-in : demand ≤ 10000) where
-  abbrev pub by-three : (Use → Bool) → (Use → ℕ → ℕ → Bool) → Method
-  by-three uses fitness = record {
-    serves = uses;
-    fits = fitness;
-    upper = of-both day peak;
-    lower = day-count;
-    weight = λ k days r. days;
-    demand = λ days r. demand;
-    lower-least = days-least;
-    lower-most = omega (arith, days-most);
-    upper-most = λ k. omega (arith, of-both-most day peak day-most peak-most k);
-    weight-most = λ k days r d l. omega (arith, d);
-    product-most = λ k days r d l. omega (arith, mul-le-mul d (of-both-most day peak day-most peak-most k));
-    demand-most = λ days r d l. demand-in;
-  }
+-- the units that three rows have in their days together, shared by days
+abbrev pub by-three : (Use → Bool) → (Use → ℕ → ℕ → Bool) → (day peak together demand : ℕ) → day ≤ 3000000 → peak ≤ 3000000 → 1 ≤ together → together ≤ 300 → demand ≤ 10000 → Method
+by-three uses fitness day peak together demand day-most peak-most together-least together-most demand-most = record {
+  serves = uses;
+  fits = fitness;
+  upper = of-both day peak;
+  lower = together;
+  weight = λ k days r. days;
+  demand = λ days r. demand;
+  lower-least = together-least;
+  lower-most = omega (arith, together-most);
+  upper-most = λ k. omega (arith, of-both-most day peak day-most peak-most k);
+  weight-most = λ k days r d l. omega (arith, d);
+  product-most = λ k days r d l. omega (arith, mul-le-mul d (of-both-most day peak day-most peak-most k));
+  demand-most = λ days r d l. demand-most;
+}
 
 -- the previous three, rows f to f + 2, fit where the span begins just after them
 abbrev pub just-before : (f : ℕ) → Use → (first last : ℕ) → Bool

@@ -21,11 +21,13 @@ contract-of m =
     by-contract (m .contract .kva) (m .utilization .value) (m .power .value) (m .load .value) (m .peak .value)
     (m .contract .ok) (m .utilization .ok) (m .power .ok) (m .load .ok) (m .peak .ok)
 
-abbrev pub three-of : ThreeRows → (Use → Bool) → (Use → ℕ → ℕ → Bool) → Method
-three-of t = by-three (t .day) (t .peak) (t .days) (t .demand .kva) (t .«day_most») (t .«peak_most») (t .«days_least») (t .«days_most») (t .demand .ok)
+abbrev pub three-of : (Use → Bool) → (Use → ℕ → ℕ → Bool) → ThreeRows → Method
+three-of uses fitness t =
+    by-three uses fitness (t .day) (t .peak) (t .days) (t .demand .kva)
+    (t .«day_most») (t .«peak_most») (t .«days_least») (t .«days_most») (t .demand .ok)
 
 abbrev pub previous-of : PreviousThree → Method
-previous-of m = three-of (m .three) stopping (just-before (m .three .from))
+previous-of m = three-of stopping (just-before (m .three .from)) (m .three)
 
 abbrev pub later-of : LaterThree → Method
-later-of m = three-of (m .three) missing (just-after (m .three .from))
+later-of m = three-of missing (just-after (m .three .from)) (m .three)
