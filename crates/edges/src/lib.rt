@@ -1,0 +1,13 @@
+// The edges of every limit, executed.
+#[cfg(test)]
+mod bench;
+#[cfg(test)]
+mod corrections;
+#[cfg(test)]
+mod holds;
+#[cfg(test)]
+mod memory;
+#[cfg(test)]
+mod periods;
+#[cfg(test)]
+mod runs;
