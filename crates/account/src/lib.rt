@@ -1,0 +1,9 @@
+// One tenant's account.
+pub mod account;
+pub mod answer;
+pub mod asking;
+pub mod billing;
+pub mod estimating;
+pub mod holding;
+pub mod opening;
+pub mod paying;
