@@ -9,7 +9,7 @@ pub enum ReaderFault {
     /// No event has this letter with so many fields.
     Shape,
     /// The field that begins at this column, counted from 1, holds nothing lawful.
-    Field(usize),
+    Field(u8),
 }
 
 impl ReaderFault {
@@ -25,7 +25,7 @@ impl ReaderFault {
     }
 
     /// The column that the refusal points at.
-    pub fn column(self) -> usize
+    pub fn column(self) -> u8
         ensures value { λ r. ⌜ r ≡ fault-value self ⌝ }
     {
         match self {

@@ -6,7 +6,7 @@ ghost use lib.ListN.{length};
 #[derive(Clone, Copy)]
 pub(crate) struct Field<'a> {
     pub(crate) bytes: &'a [u8],
-    pub(crate) column: usize,
+    pub(crate) column: u8,
 }
 
 /// Walks over what stands after a line's letter and its comma, and hands out the fields.

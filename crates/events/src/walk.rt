@@ -40,7 +40,7 @@ impl<'a> Fields<'a> {
         }
         let end = stop_at(rest, start, b',');
         self.at = end + 1;
-        Some(Field { bytes: &rest[start..end], column: start + 3 })
+        Some(Field { bytes: &rest[start..end], column: (start + 3) as u8 })
     }
 
     /// The figure in the next field.

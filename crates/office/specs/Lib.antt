@@ -1,2 +1,5 @@
 pub mod Pages
+pub mod Faults
 pub mod Texts
+pub mod Statement
+pub mod Served

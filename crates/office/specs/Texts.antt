@@ -2,13 +2,17 @@
 use mathlib.Core.List.{List, [], _∷_, _++_}
 use Prim.Native.Nat.{ℕ}
 use lib.Chars.{codes}
-use lib.IntN.{ℤ}
+use lib.IntN.{ℤ, pos}
 use Rattle.std.specs.Written.{decimal, signed}
 use Rattle.std.specs.declared.option.Option.{Option}
 use Rattle.std.specs.declared.option.Option.the-variants.{Some, None}
+use Rattle.std.specs.declared.result.Result.{Result}
+use Rattle.std.specs.declared.result.Result.the-variants.{Ok, Err}
 use Rattle.rules.specs.Law.{Letter, B, C, P, Line}
-use Rattle.office.specs.declared.entries.Layer.{Layer}
-use Rattle.office.specs.declared.entries.Layer.the-variants.{Reader, Account}
+use Rattle.office.specs.declared.fault.Fault.{Fault}
+use Rattle.office.specs.declared.fault.Layer.{Layer}
+use Rattle.office.specs.declared.fault.Layer.the-variants.{Reader, Account}
+use Rattle.office.specs.Faults.{layer-of, fault-number, fault-value}
 
 -- r, a
 abbrev pub layer-letter : Layer → ℕ
@@ -29,6 +33,11 @@ row-text None = codes "-"
 -- A,layer,number,value
 abbrev pub answer-line : (layer number : ℕ) → (value : ℤ) → List ℕ
 answer-line layer number value = 65 ∷ 44 ∷ layer ∷ 44 ∷ [] ++ decimal number ++ codes "," ++ signed value ++ 10 ∷ []
+
+-- the A line of what a line was answered: the account's where it was accepted, with number 0
+abbrev pub told : Result ℤ Fault → List ℕ
+told (Ok value) = answer-line (layer-letter Account) 0 value
+told (Err f) = answer-line (layer-letter (layer-of f)) (fault-number f) (pos (fault-value f))
 
 -- J,hold,letter,row,cents
 abbrev pub journal-line : Line → List ℕ

@@ -3,18 +3,13 @@ ghost use mathlib.Core.Path.{_≡_};
 ghost use denote.Ref.{name};
 ghost use Rattle.figures.specs.View.{letter-of, line-seen};
 ghost use Rattle.office.specs.Pages.{Wrote};
-ghost use Rattle.office.specs.Texts.{layer-letter, line-letter, row-text, answer-line, journal-line, sums-line};
+ghost use Rattle.office.specs.Texts.{layer-letter, line-letter, row-text, answer-line, told, journal-line, sums-line};
+use crate::fault::Fault;
+use crate::fault::Layer;
 use crate::page::Page;
 use figures::line::Letter;
 use figures::line::Line;
 use figures::money::Money;
-
-/// The layer that answered a line.
-#[derive(Clone, Copy)]
-pub enum Layer {
-    Reader,
-    Account,
-}
 
 impl Layer {
     fn letter(self) -> u8
@@ -39,8 +34,7 @@ fn letter(letter: Letter) -> u8
 }
 
 impl<'a> Page<'a> {
-    /// What a line of the text was answered: `A,layer,number,value`.
-    pub fn answer(&mut self, layer: Layer, number: u32, value: i64)
+    fn answer_line(&mut self, layer: Layer, number: u32, value: i64)
         ensures same { λ _. ⌜ name (now (self .exit) .bytes) ≡ name (now (self .entry) .bytes) ⌝ }
         ensures after { λ _. ⌜ Wrote (now (self .entry)) (now (self .exit)) (answer-line (layer-letter layer) number value) ⌝ }
     {
@@ -49,6 +43,17 @@ impl<'a> Page<'a> {
         self.push(b',');
         self.cents(Money(value));
         self.push(b'\n');
+    }
+
+    /// What a line of the text was answered: `A,layer,number,value`.
+    pub fn answer(&mut self, outcome: Result<i64, Fault>)
+        ensures same { λ _. ⌜ name (now (self .exit) .bytes) ≡ name (now (self .entry) .bytes) ⌝ }
+        ensures after { λ _. ⌜ Wrote (now (self .entry)) (now (self .exit)) (told outcome) ⌝ }
+    {
+        match outcome {
+            Ok(value) => self.answer_line(Layer::Account, 0, value),
+            Err(fault) => self.answer_line(fault.layer(), fault.number(), fault.value() as i64),
+        }
     }
 
     /// A row's number, or `-` where the line names none.

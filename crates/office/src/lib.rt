@@ -1,3 +1,5 @@
-// The office's side of an account: the page that a statement is written on.
+// The office's side of an account: events served, and the page that a statement is written on.
 pub mod entries;
+pub mod fault;
 pub mod page;
+pub mod serving;

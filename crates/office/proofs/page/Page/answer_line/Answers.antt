@@ -1,6 +1,6 @@
 use mir.Facts.{toZ-ofZ}
 use Rattle.office.proofs.Steps.{_then_}
-use Rattle.office.proofs.page.Page.answer.Needs as need
+use Rattle.office.proofs.page.Page.answer_line.Needs as need
 
 pub returns : need.returns
 returns c = record {
