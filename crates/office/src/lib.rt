@@ -3,3 +3,4 @@ pub mod entries;
 pub mod fault;
 pub mod page;
 pub mod serving;
+mod writing;
