@@ -26,4 +26,3 @@ side-of Supplier = rules.supplier
 
 abbrev pub finding-of : Finding → rules.Finding
 finding-of f = record { cause = cause-of (f .cause); side = side-of (f .side); notice = f .notice; ascertained = f .ascertained; first = f .first; last = f .last }
-

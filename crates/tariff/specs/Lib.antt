@@ -1,0 +1,4 @@
+pub mod Hotel
+pub mod Limits
+pub mod Meaning
+pub mod Meant
