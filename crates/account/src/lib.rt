@@ -3,6 +3,7 @@ pub mod account;
 pub mod answer;
 pub mod asking;
 pub mod billing;
+pub mod correcting;
 pub mod estimating;
 pub mod holding;
 pub mod opening;
