@@ -3,3 +3,4 @@ pub mod Faults
 pub mod Texts
 pub mod Statement
 pub mod Served
+pub mod Office

@@ -3,4 +3,5 @@ pub mod entries;
 pub mod fault;
 pub mod page;
 pub mod serving;
+pub mod statement;
 mod writing;

@@ -18,7 +18,7 @@ pub struct Page<'a> {
 }
 
 /// Zeros from `from` on.
-fn clear(bytes: &mut [u8], from: usize)
+pub(crate) fn clear(bytes: &mut [u8], from: usize)
     requires { ⌜ from ≤ length (now bytes) ⌝ }
     ensures after { λ _. ⌜ now (bytes .exit) ≡ take from (now (bytes .entry)) ++ replicate (length (now (bytes .entry)) - from) 0 ⌝ }
 {
