@@ -38,6 +38,12 @@ value-for number written = cond (eqb number 0) (length written) 0
 abbrev pub page-for : (n number : ℕ) → (written : List ℕ) → List ℕ
 page-for n number written = cond (eqb number 0) (written ++ replicate (n - length written) 0) (replicate n 0)
 
+-- a statement that asked these questions answered number and value, and left the page so
+pub record Stated (t : Tariff) (o : Opening) (questions : List (ℕ × Bool)) (text before left : List ℕ) (number value : ℕ) : Type 0 where
+  pub answered : number ≡ first-no questions
+  pub counted : value ≡ value-for number (result t o (lines text))
+  pub page : left ≡ page-for (length before) number (result t o (lines text))
+
 -- the account that the page shows keeps the law over the calls that the text makes
 pub record Lawful-page (t : Tariff) (o : Opening) (text page : List ℕ) : Type 0 where
   pub account : Shown
