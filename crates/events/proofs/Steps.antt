@@ -64,8 +64,8 @@ fields-step [] = refl
 fields-step (c ∷ cs) =
     let ih = fields-step cs in
     elim (eqb c 44) as (λ v. cond v ([] ∷ fields cs) (onto c (fields cs)) ≡ take (cond v 0 (suc (stop 44 cs))) (c ∷ cs) ∷ pending (suc (cond v 0 (suc (stop 44 cs)))) (c ∷ cs)) [
-      true ↦ simp (le-leb 1 (suc (length cs)) (omega arith))
-    | false ↦ ap (onto c) ih ∙ simp leb-suc
+      | true ↦ simp (le-leb 1 (suc (length cs)) (omega arith))
+      | false ↦ ap (onto c) ih ∙ simp leb-suc
     ]
 
 pub fields-more : (xs : List ℕ) (i e : ℕ) → i ≤ length xs → e ≡ i + stop 44 (drop i xs) → pending i xs ≡ take (e - i) (drop i xs) ∷ pending (e + 1) xs

@@ -36,7 +36,7 @@ impl<'a> Reader<'a> {
 
     pub fn next(&mut self) -> Option<&'a [u8]>
         ensures value { λ r. ⌜ BySome r
-            (lines-left (now (self .entry)) ≡ [])
+            ((lines-left (now (self .entry)) ≡ []) × (lines-left (now (self .exit)) ≡ []))
             (λ l. lines-left (now (self .entry)) ≡ now l ∷ lines-left (now (self .exit))) ⌝ }
     {
         let text = self.text;

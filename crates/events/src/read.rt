@@ -45,7 +45,11 @@ fn read_bill(rest: &[u8]) -> Result<Event, ReaderFault>
     let day = Kwh(fields.figure()?);
     let peak = Kwh(fields.figure()?);
     let demand = Kva(fields.figure()?);
-    Ok(Event::Bill { hold, last, reading: Reading { day, peak, demand } })
+    Ok(Event::Bill {
+        hold,
+        last,
+        reading: Reading { day, peak, demand },
+    })
 }
 
 fn read_pay(rest: &[u8]) -> Result<Event, ReaderFault>

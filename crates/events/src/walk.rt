@@ -40,7 +40,10 @@ impl<'a> Fields<'a> {
         }
         let end = stop_at(rest, start, b',');
         self.at = end + 1;
-        Some(Field { bytes: &rest[start..end], column: (start + 3) as u8 })
+        Some(Field {
+            bytes: &rest[start..end],
+            column: (start + 3) as u8,
+        })
     }
 
     /// The figure in the next field.
@@ -63,7 +66,10 @@ impl<'a> Fields<'a> {
     fn count(&self) -> usize
         ensures value { λ r. ⌜ r ≡ length (fields-left (now (self .entry))) ⌝ }
     {
-        let mut walk = Fields { rest: self.rest, at: self.at };
+        let mut walk = Fields {
+            rest: self.rest,
+            at: self.at,
+        };
         let mut n = 0;
         while let Some(_) = walk.next() {
             n += 1;

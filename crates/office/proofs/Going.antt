@@ -58,10 +58,10 @@ module _ {T : Type 0} (mean : T → Tariff) (a : Account T) (p : Page) (all : Li
       let t = mean (a .tariff) in
       let o = opening-of a in
       let said : told z ≡ reply t o (after t o (g .made)) (event-of l) =
-          s .answer
-          ∙ ap (λ (x : Tariff). reply x (opening-of b) (state-of b) (event-of l)) (g .tariff)
-          ∙ ap (λ (x : Opening). reply t x (state-of b) (event-of l)) (g .opening)
-          ∙ ap (λ (x : State). reply t o x (event-of l)) (g .state)
+      s .answer
+      ∙ ap (λ (x : Tariff). reply x (opening-of b) (state-of b) (event-of l)) (g .tariff)
+      ∙ ap (λ (x : Opening). reply t x (state-of b) (event-of l)) (g .opening)
+      ∙ ap (λ (x : State). reply t o x (event-of l)) (g .state)
       in
       record {
         made = heard (g .made) (event-of l);
@@ -94,6 +94,6 @@ module _ {T : Type 0} (mean : T → Tariff) (a : Account T) (p : Page) (all : Li
   pub going-text : (b : Account T) (q : Page) (left : List (List ℕ)) → Going mean a b p q all left → left ≡ [] → Wrote p q (replies (mean (a .tariff)) (opening-of a) [] all)
   going-text b q left g is =
       let whole : g .written ≡ replies (mean (a .tariff)) (opening-of a) [] all =
-          sym (append-nil (g .written)) ∙ sym (ap (λ x. g .written ++ replies (mean (a .tariff)) (opening-of a) (g .made) x) is) ∙ g .answers
+      sym (append-nil (g .written)) ∙ sym (ap (λ x. g .written ++ replies (mean (a .tariff)) (opening-of a) (g .made) x) is) ∙ g .answers
       in
       rw whole at (g .page)

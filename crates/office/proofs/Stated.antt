@@ -35,7 +35,7 @@ pub by-number : {t : Tariff} {text before left : List ℕ} {number value : ℕ} 
 by-number {t} {text} {before} {left} {number} {value} tariff k day named lawful means s =
     let is : t ≡ numbered tariff = means ∙ ap numbered (sym named) in
     let u : Stated (numbered tariff) (opened-on day) ((2, is-day day) ∷ text-asked (numbered tariff) (opened-on day) text (length before)) text before left number value =
-        subst (λ (x : Tariff). Stated x (opened-on day) ((2, is-day day) ∷ text-asked x (opened-on day) text (length before)) text before left number value) is s
+    subst (λ (x : Tariff). Stated x (opened-on day) ((2, is-day day) ∷ text-asked x (opened-on day) text (length before)) text before left number value) is s
     in
     record { answered = u .answered ∙ simp (ap is-tariff named ∙ lawful); counted = u .counted; page = u .page }
 

@@ -31,7 +31,6 @@ put-put n (Some s) t u =
     (cases-lt n (length s + length t))
 
 infixl 20 _then_
-
 pub _then_ : {p q r : Page} {t u : List ℕ} → Wrote p q t → Wrote q r u → Wrote p r (t ++ u)
 _then_ {p} {q} {r} {t} {u} a b = record {
   long = b .long ∙ a .long;

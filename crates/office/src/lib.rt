@@ -4,4 +4,5 @@ pub mod fault;
 pub mod page;
 pub mod serving;
 pub mod statement;
+mod memory;
 mod writing;

@@ -32,7 +32,11 @@ impl<'a> Page<'a> {
         ensures same { λ r. ⌜ name (r .bytes) ≡ name (bytes .entry) ⌝ }
         ensures made { λ r. ⌜ held r ≡ Some [] ⌝ ∗ ⌜ length (now (r .bytes)) ≡ length (now (bytes .entry)) ⌝ }
     {
-        Page { bytes, at: 0, full: false }
+        Page {
+            bytes,
+            at: 0,
+            full: false,
+        }
     }
 
     pub fn push(&mut self, byte: u8)

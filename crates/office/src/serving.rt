@@ -3,11 +3,11 @@ ghost use Rattle.account.specs.State.{Stepped};
 ghost use Rattle.events.specs.Events.{event-of};
 ghost use Rattle.office.specs.Statement.{call-of};
 ghost use Rattle.office.specs.Served.{answer-of, Served};
-use account::account::Account;
-use account::answer::Refusal;
 use crate::fault::Fault;
 use crate::fault::FaultFromAccount;
 use crate::fault::FaultFromReader;
+use account::account::Account;
+use account::answer::Refusal;
 use events::event::Event;
 use events::read_event;
 use tariff::tariff::Tariff;
@@ -25,7 +25,11 @@ fn call<T: Tariff>(account: &mut Account<T>, event: Event) -> Result<i64, Refusa
             account.hand_back(hold)?;
             Ok(0)
         }
-        Event::Bill { hold, last, reading } => {
+        Event::Bill {
+            hold,
+            last,
+            reading,
+        } => {
             let charge = account.bill(hold, last, reading)?;
             Ok(charge.cents as i64)
         }

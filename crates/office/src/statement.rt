@@ -10,20 +10,11 @@ ghost use Rattle.tariff.specs.Meaning.{changed};
 ghost use Rattle.tariff.specs.Meant.{plain-of, by-demand-of};
 ghost use Rattle.account.specs.State.{state-of, opening-of};
 ghost use Rattle.office.specs.Office.{opened-on, text-asked, asked, Stated, Lawful-page};
-use account::account::Account;
+use crate::memory::BLANK;
+use crate::memory::EMPTY;
 use crate::page::clear;
 use crate::writing::write;
-use figures::dates::Day;
-use figures::dates::Term;
-use figures::line::Letter;
-use figures::line::Line;
-use figures::money::Charge;
-use figures::money::Money;
-use figures::row::Row;
-use figures::row::Sort;
-use figures::units::Demand;
-use figures::units::Registers;
-use figures::units::Units;
+use account::account::Account;
 use figures::reported::Kva;
 use figures::reported::OutOfLimits;
 use tariff::by_demand::ByDemand;
@@ -46,11 +37,6 @@ pub struct Answer {
     pub value: u64,
 }
 
-const NOTHING: Registers = Registers { day: Units { kwh: 0 }, peak: Units { kwh: 0 }, demand: Demand { kva: 0 } };
-const ONE_DAY: Term = Term { first: Day { number: 0 }, last: Day { number: 0 } };
-const BLANK: Row = Row { term: ONE_DAY, sort: Sort::Read, recorded: NOTHING, standing: NOTHING, charge: Charge { cents: 0 } };
-const EMPTY: Line = Line { hold: 0, letter: Letter::Payment, row: None, cents: Money(0) };
-
 /// A refusal, with a page of zeros.
 fn refused(number: u32, page: &mut [u8]) -> Answer
     ensures value { λ r. ⌜ (r .number ≡ number) × (r .value ≡ 0) ⌝ }
@@ -71,13 +57,24 @@ fn answer_text<T: Tariff>(account: &mut Account<T>, text: &[u8], page: &mut [u8]
         return refused(22, page);
     }
     match write(account, text, page) {
-        Some(bytes) => Answer { number: 0, value: bytes as u64 },
-        None => Answer { number: 21, value: 0 },
+        Some(bytes) => Answer {
+            number: 0,
+            value: bytes as u64,
+        },
+        None => Answer {
+            number: 21,
+            value: 0,
+        },
     }
 }
 
 /// The statement of a text under one tariff.
-fn statement_under<T: Tariff + Drop>(tariff: T, opening: u64, text: &[u8], page: &mut [u8]) -> Answer
+fn statement_under<T: Tariff + Drop>(
+    tariff: T,
+    opening: u64,
+    text: &[u8],
+    page: &mut [u8],
+) -> Answer
     ensures after { λ r. ⌜ Stated (T·Tariff .meaning tariff) (opened-on opening)
         ((2, is-day opening) ∷ text-asked (T·Tariff .meaning tariff) (opened-on opening) (now (text .entry)) (length (now (page .entry))))
         (now (text .entry)) (now (page .entry)) (now (page .exit)) (r .number) (r .value) ⌝ }

@@ -10,9 +10,9 @@ ghost use Rattle.std.specs.declared.option.Option.the-variants.{Some};
 ghost use Rattle.office.specs.Pages.{put, Wrote, size, filled};
 ghost use Rattle.office.specs.Statement.{replies, shown-text, result};
 ghost use Rattle.office.specs.Served.{Ran};
-use account::account::Account;
 use crate::page::Page;
 use crate::serving::serve;
+use account::account::Account;
 use events::lines::Reader;
 use tariff::tariff::Tariff;
 
@@ -43,7 +43,11 @@ fn show<T>(account: &Account<T>, page: &mut Page)
 }
 
 /// Writes the result for an account just opened; how many bytes it has, where it fits.
-pub(crate) fn write<T: Tariff>(account: &mut Account<T>, text: &[u8], page: &mut [u8]) -> Option<usize>
+pub(crate) fn write<T: Tariff>(
+    account: &mut Account<T>,
+    text: &[u8],
+    page: &mut [u8],
+) -> Option<usize>
     requires { ⌜ state-of (now account) ≡ after (T·Tariff .meaning (now account .tariff)) (opening-of (now account)) [] ⌝ }
     ensures value { λ r. ⌜ r ≡ size (put (length (now (page .entry))) (Some []) (result (T·Tariff .meaning (now (account .entry) .tariff)) (opening-of (now (account .entry))) (lines (now (text .entry))))) ⌝ }
     ensures after { λ _. ⌜ now (page .exit) ≡ filled (length (now (page .entry))) (put (length (now (page .entry))) (Some []) (result (T·Tariff .meaning (now (account .entry) .tariff)) (opening-of (now (account .entry))) (lines (now (text .entry))))) ⌝ }

@@ -19,12 +19,16 @@ struct Asked {
 fn figure(word: &str) -> Result<u32, AnyError> {
     match word.parse::<u32>() {
         Ok(figure) => Ok(figure),
-        Err(_) => Err("an argument is no figure; they are the tariff's number and the opening day".into()),
+        Err(_) =>
+            Err("an argument is no figure; they are the tariff's number and the opening day".into()),
     }
 }
 
 fn arguments(rt: &LibcRuntime) -> Result<Asked, AnyError> {
-    let mut asked = Asked { tariff: 1, opening: 0 };
+    let mut asked = Asked {
+        tariff: 1,
+        opening: 0,
+    };
     let mut words = env::args(rt)?;
     let _ = words.next();
     if let Some(word) = words.next() {
@@ -43,7 +47,8 @@ fn arguments(rt: &LibcRuntime) -> Result<Asked, AnyError> {
 fn accepted(number: u32) -> Result<(), AnyError> {
     match number {
         0 => Ok(()),
-        2 => Err("refused by question 2: are the tariff's number (1 to 4) and the opening day (0 to 18262) in limits?".into()),
+        2 =>
+            Err("refused by question 2: are the tariff's number (1 to 4) and the opening day (0 to 18262) in limits?".into()),
         22 => Err("refused by question 22: has the text 1 to 65536 bytes?".into()),
         _ => Err("refused by question 21: does the result fit the page?".into()),
     }
@@ -54,7 +59,12 @@ fn run(rt: &LibcRuntime) -> Result<(), AnyError> {
     let mut text = Vec::new(rt.alloc());
     rt.stdin().read_to_end(&mut text)?;
     let mut page = vec![in rt.alloc(); 0u8; ROOM]?;
-    let answer = statement(asked.tariff, asked.opening, text.as_slice(), page.as_mut_slice());
+    let answer = statement(
+        asked.tariff,
+        asked.opening,
+        text.as_slice(),
+        page.as_mut_slice(),
+    );
     accepted(answer.number)?;
     let bytes = page.len().min(answer.value as usize);
     rt.stdout().write_all(&page.as_slice()[0..bytes])?;

@@ -16,7 +16,7 @@ use Rattle.events.proofs.figure.read_figure.Needs.{then-b-lt48·by·then-b-lt4
 pub returns-then-b-lt48 : need.returns-then-b-lt48
 returns-then-b-lt48 c = record {
   value = refused (c .args .field .now) (sym (c .loop-b .inv .2) ∙ digits-off (c .args .field .now) (c .loop-b .b-index) (c .loop-b-test .taken)
-    (elim (c .then-b-lt48 .came) [ then-b-lt48·by·then-b-lt48 w ↦ inl (w .if-b-lt48 .taken) | then-b-lt48·by·else-b-lt48·then-b-gt57 w ↦ inr (w .if-b-gt57 .taken) ]));
+      (elim (c .then-b-lt48 .came) [ then-b-lt48·by·then-b-lt48 w ↦ inl (w .if-b-lt48 .taken) | then-b-lt48·by·else-b-lt48·then-b-gt57 w ↦ inr (w .if-b-gt57 .taken) ]));
 }
 
 pub mul-number : need.mul-number

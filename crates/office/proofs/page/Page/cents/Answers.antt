@@ -12,16 +12,16 @@ pub returns : need.returns
 returns c =
     let e : c .unsigned-abs .result ≡ natAbs (c .args .amount .0) = search needs in
     elim (c .if-amount-lt0 .came) [
-      then-amount-lt0 w ↦
-      let below : c .args .amount .0 <ℤ pos 0 = omega (arith, ints) in
-      record {
-        same = c .figure .ensures .same ∙ ap (λ p. p .bytes .name) (w .self-is) ∙ w .push .ensures .same;
-        after = rw (signed-below (c .args .amount .0) (c .unsigned-abs .result) below e) (w .push .ensures .after then (rw (w .self-is) at (c .figure .ensures .after)));
-      }
-    | else-amount-lt0 w ↦
-      let above : pos 0 ≤ℤ c .args .amount .0 = omega (arith, ints) in
-      record {
-        same = c .figure .ensures .same ∙ ap (λ p. p .bytes .name) (w .self-is);
-        after = rw (signed-above (c .args .amount .0) (c .unsigned-abs .result) above e) (rw (w .self-is) at (c .figure .ensures .after));
-      }
+      | then-amount-lt0 w ↦
+          let below : c .args .amount .0 <ℤ pos 0 = omega (arith, ints) in
+          record {
+            same = c .figure .ensures .same ∙ ap (λ p. p .bytes .name) (w .self-is) ∙ w .push .ensures .same;
+            after = rw (signed-below (c .args .amount .0) (c .unsigned-abs .result) below e) (w .push .ensures .after then (rw (w .self-is) at (c .figure .ensures .after)));
+          }
+      | else-amount-lt0 w ↦
+          let above : pos 0 ≤ℤ c .args .amount .0 = omega (arith, ints) in
+          record {
+            same = c .figure .ensures .same ∙ ap (λ p. p .bytes .name) (w .self-is);
+            after = rw (signed-above (c .args .amount .0) (c .unsigned-abs .result) above e) (rw (w .self-is) at (c .figure .ensures .after));
+          }
     ]

@@ -8,8 +8,7 @@ use Rattle.office.proofs.page.Page.figure.Needs as need
 pub loop-left-again : need.loop-left-again
 loop-left-again c =
     let small = c .loop-left .inv .2 in
-    let up = digit-room _ _ (c .loop-left-test .taken) small in
-    (
+    let up = digit-room _ _ (c .loop-left-test .taken) small in (
       length-set (c .loop-left .digits) _ _ ∙ c .loop-left .inv .0,
       omega arith,
       digit-less _ _ (c .loop-left-test .taken) small,
