@@ -5,10 +5,9 @@ use mathlib.Core.List.{List, [], _∷_}
 use Prim.Native.Nat.{ℕ, _-_, _≤_}
 use native.Mathlib.Omega.{arith}
 use borrow.Author.Tests.{eq-eqb, eqb-true, le-ltb}
-use lib.Dec.{eqb, ltb}
+use lib.Dec.{eqb}
 use lib.ListN.{length, getD, take, drop}
 use Rattle.std.proofs.shelf.Lists.{take-rest}
-use Rattle.std.specs.declared.option.Option.{Option}
 use Rattle.std.specs.declared.option.Option.the-variants.{Some, None}
 use Rattle.std.specs.declared.result.Result.{Result}
 use Rattle.std.specs.declared.result.Result.the-variants.{Err}
@@ -16,7 +15,7 @@ use Rattle.events.specs.declared.event.Event.{Event}
 use Rattle.events.specs.declared.fault.ReaderFault.{ReaderFault}
 use Rattle.events.specs.declared.fault.ReaderFault.the-variants.{Shape}
 use Rattle.events.specs.Lines.{onto, fields}
-use Rattle.events.specs.Events.{Form, T-line, H-line, B-line, P-line, letter-of, form-of, event-in, event-with, event-from}
+use Rattle.events.specs.Events.{Form, T-line, H-line, B-line, P-line, letter-of, event-in, event-with, event-from}
 use Rattle.events.specs.Walks.{begins}
 
 -- a line of this letter

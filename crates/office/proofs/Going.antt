@@ -7,7 +7,7 @@ use Rattle.std.specs.declared.result.Result.{Result}
 use Rattle.std.specs.declared.result.Result.the-variants.{Ok, Err}
 use Rattle.std.proofs.shelf.Lists.{append-nil, append-assoc}
 use Rattle.rules.specs.Subject.{Tariff, Call, Opening}
-use Rattle.rules.specs.Machine.{State, step, after}
+use Rattle.rules.specs.Machine.{State, after}
 use Rattle.account.specs.declared.account.Account.{Account}
 use Rattle.account.specs.State.{state-of, opening-of}
 use Rattle.events.specs.declared.event.Event.{Event}

@@ -1,15 +1,14 @@
 -- A statement under a tariff is the statement under its number. Assumes nothing.
-use mathlib.Core.Path.{_≡_, refl, sym, ap, subst, _∙_}
-use mathlib.Core.Bool.{Bool, true, false, cond}
+use mathlib.Core.Path.{_≡_, sym, ap, subst, _∙_}
+use mathlib.Core.Bool.{Bool, true}
 use mathlib.Core.List.{List, [], _∷_, _++_}
 use Prim.Native.Nat.{ℕ, _+_, _-_}
 use native.Mathlib.Omega.{arith}
-use lib.Dec.{eqb}
 use lib.ListN.{length, replicate}
 use Rattle.std.proofs.shelf.Lists.{length-append, length-replicate}
 use Rattle.std.proofs.shelf.Tests.{eq-eqb}
 use Rattle.rules.specs.Subject.{Tariff, Opening}
-use Rattle.rules.specs.Questions.{is-day, first-no}
+use Rattle.rules.specs.Questions.{is-day}
 use Rattle.rules.specs.Machine.{after, shown}
 use Rattle.rules.proofs.Stands.{account-law}
 use Rattle.tariff.specs.Hotel.{numbered}

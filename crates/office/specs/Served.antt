@@ -5,7 +5,7 @@ use Prim.Native.Nat.{ℕ}
 use lib.IntN.{ℤ}
 use Rattle.std.specs.declared.result.Result.{Result}
 use Rattle.std.specs.declared.result.Result.the-variants.{Ok, Err}
-use Rattle.rules.specs.Subject.{Tariff, Call, Opening}
+use Rattle.rules.specs.Subject.{Tariff, Opening}
 use Rattle.rules.specs.Machine.{State, Answer, step, after}
 use Rattle.account.specs.declared.account.Account.{Account}
 use Rattle.account.specs.declared.answer.Refusal.{Refusal}

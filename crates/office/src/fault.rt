@@ -1,6 +1,5 @@
 // Why a line of the text did nothing, and which layer says so.
 ghost use mathlib.Core.Path.{_≡_};
-ghost use lib.IntN.{pos};
 ghost use Rattle.account.specs.Answers.{number-of};
 ghost use Rattle.office.specs.declared.fault.Fault.the-variants.{Reader, Account};
 ghost use Rattle.office.specs.Faults.{layer-of, fault-number, fault-value};

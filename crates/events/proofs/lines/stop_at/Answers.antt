@@ -1,5 +1,4 @@
 use borrow.Author.Needs.{needs}
-use native.Mathlib.Omega.{arith}
 use Rattle.events.proofs.Steps.{stop-past, stop-here, stop-end}
 use Rattle.events.proofs.lines.stop_at.Needs as need
 

@@ -1,4 +1,3 @@
-use mathlib.Core.Path.{_∙_, sym}
 use borrow.Author.Needs.{needs}
 use Rattle.events.proofs.Begins.{by-fields}
 use Rattle.events.proofs.read.read_event.Needs as need

@@ -1,4 +1,4 @@
-use mathlib.Core.Path.{_≡_, refl}
+use mathlib.Core.Path.{refl}
 use borrow.Author.Needs.{needs}
 use Rattle.office.proofs.Stated.{by-number, lawful}
 use Rattle.office.proofs.statement.statement.Needs as need
