@@ -1,0 +1,4 @@
+pub mod Steps
+pub mod Digits
+pub mod Ends
+pub mod Begins
