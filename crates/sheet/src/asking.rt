@@ -14,14 +14,14 @@ use method::method::Method;
 use method::finding::Finding;
 
 /// Whether both shares keep the limit.
-pub fn fit(s: Pair) -> bool
+pub(crate) fn fit(s: Pair) -> bool
     ensures { λ r. ⌜ r ≡ pair-fits (s .day) (s .peak) ⌝ }
 {
     s.day <= 1_000_000 && s.peak <= 1_000_000
 }
 
 /// The weights with those of one row more.
-pub fn sum<M: Method>(m: &M, before: Pair, w: Pair) -> Pair
+pub(crate) fn sum<M: Method>(m: &M, before: Pair, w: Pair) -> Pair
     requires before { ⌜ Weighed (M·Method .meaning (now m)) 120 (before .day) (before .peak) ⌝ }
     requires light { ⌜ Light (M·Method .meaning (now m)) (w .day) (w .peak) ⌝ }
     ensures { λ r. ⌜ (r .day ≡ before .day + w .day) × (r .peak ≡ before .peak + w .peak) ⌝ }

@@ -18,19 +18,19 @@ use method::finding::Finding;
 
 /// Weights of rows, or what is shared by them.
 #[derive(Clone, Copy)]
-pub struct Pair {
+pub(crate) struct Pair {
     pub day: u64,
     pub peak: u64,
 }
 
 /// Whether a correction rewrites the row at place `i`.
-pub fn rewrites(f: Finding, i: u64, row: Row) -> bool
+pub(crate) fn rewrites(f: Finding, i: u64, row: Row) -> bool
     ensures { λ r. ⌜ r ≡ rewrites-row (finding-of f) i (period-seen row) ⌝ }
 {
     f.first <= i && i <= f.last && rewrites_sort(f.cause, row.sort)
 }
 
-pub fn rewrites_sort(c: Cause, s: Sort) -> bool
+pub(crate) fn rewrites_sort(c: Cause, s: Sort) -> bool
     ensures { λ r. ⌜ r ≡ rewrites-sort (cause-of c) (sort-of s) ⌝ }
 {
     match (c, s) {
@@ -59,7 +59,7 @@ fn share(upper: u64, lower: u64, before: u64, weight: u64) -> u64
 }
 
 /// The weights of a row.
-pub fn weigh<M: Method>(m: &M, row: Row) -> Pair
+pub(crate) fn weigh<M: Method>(m: &M, row: Row) -> Pair
     ensures day { λ r. ⌜ r .day ≡ day-weight (M·Method .meaning (now (m .entry))) (period-seen row) ⌝ }
     ensures peak { λ r. ⌜ r .peak ≡ peak-weight (M·Method .meaning (now (m .entry))) (period-seen row) ⌝ }
     ensures light { λ r. ⌜ Light (M·Method .meaning (now (m .entry))) (r .day) (r .peak) ⌝ }
@@ -72,7 +72,7 @@ pub fn weigh<M: Method>(m: &M, row: Row) -> Pair
 }
 
 /// The shares of a row of weights `w`, after rows that weigh `before` together.
-pub fn shares<M: Method>(m: &M, before: Pair, w: Pair) -> Pair
+pub(crate) fn shares<M: Method>(m: &M, before: Pair, w: Pair) -> Pair
     requires before { ⌜ Weighed (M·Method .meaning (now m)) 120 (before .day) (before .peak) ⌝ }
     requires light { ⌜ Light (M·Method .meaning (now m)) (w .day) (w .peak) ⌝ }
     ensures day { λ r. ⌜ r .day ≡ share-of (M·Method .meaning (now (m .entry)) .upper day-units) (M·Method .meaning (now (m .entry)) .lower) (before .day) (w .day) ⌝ }
@@ -85,7 +85,7 @@ pub fn shares<M: Method>(m: &M, before: Pair, w: Pair) -> Pair
 }
 
 /// What the method lays down for a row, its shares given.
-pub fn lay<M: Method>(m: &M, s: Pair, row: Row) -> Registers
+pub(crate) fn lay<M: Method>(m: &M, s: Pair, row: Row) -> Registers
     requires { ⌜ s .day ≤ 1000000 ⌝ ∗ ⌜ s .peak ≤ 1000000 ⌝ }
     ensures { λ r. ⌜ regs r ≡ record { day = s .day; peak = s .peak; demand = M·Method .meaning (now (m .entry)) .demand (days (period-seen row)) (regs (row .recorded)) } ⌝ }
 {
