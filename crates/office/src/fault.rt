@@ -1,6 +1,5 @@
 // Why a line of the text did nothing, and which layer says so.
 ghost use mathlib.Core.Path.{_≡_};
-ghost use Rattle.account.specs.Answers.{number-of};
 ghost use Rattle.office.specs.declared.fault.Fault.the-variants.{Reader, Account};
 ghost use Rattle.office.specs.Faults.{layer-of, fault-number, fault-value};
 use account::answer::Refusal;
@@ -36,26 +35,6 @@ pub impl From<Refusal> for Fault as FaultFromAccount {
     }
 }
 
-/// The number of the account's question that was answered no.
-fn question(refusal: Refusal) -> u32
-    ensures value { λ r. ⌜ r ≡ number-of refusal ⌝ }
-{
-    match refusal {
-        Refusal::NoHold => 1,
-        Refusal::Figures => 2,
-        Refusal::SheetFull => 3,
-        Refusal::Period => 4,
-        Refusal::NotBilled => 5,
-        Refusal::WrongSort => 6,
-        Refusal::WrongSpan => 7,
-        Refusal::NoFit => 8,
-        Refusal::ShareTooLarge => 9,
-        Refusal::JournalFull => 10,
-        Refusal::Held => 11,
-        Refusal::NoNumber => 12,
-    }
-}
-
 impl Fault {
     pub fn layer(self) -> Layer
         ensures value { λ r. ⌜ r ≡ layer-of self ⌝ }
@@ -72,7 +51,7 @@ impl Fault {
     {
         match self {
             Fault::Reader(fault) => fault.number(),
-            Fault::Account(refusal) => question(refusal),
+            Fault::Account(refusal) => refusal.number(),
         }
     }
 
