@@ -61,4 +61,3 @@ listed a hold last place first m p f =
     let late = leb 6 (run ps) in
     sym (ap₂ (λ x y. first-no (estimate-list o b hold last x y m)) (p ∙ sym (periods-length a)) f
     ∙ ap (λ n. first-no (with-nine o b hold last day m n)) (sym (late-fits late day last m) ∙ ap (λ q. late || shares-fit q) (sym (unread-is day last m ps))))
-

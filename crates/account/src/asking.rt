@@ -47,7 +47,11 @@ impl<'a, T> Account<'a, T> {
     pub(crate) fn sheet_takes(&self) -> Result<(), Refusal>
         ensures { λ r. ⌜ Says (ltb (length (periods-of (state-of (now (self .entry))))) (sheet-room (opening-of (now (self .entry))))) (λ _. now (self .entry) .sheet .filled < now (self .entry) .sheet .limit) SheetFull r ⌝ }
     {
-        if self.sheet.has_room() { Ok(()) } else { Err(Refusal::SheetFull) }
+        if self.sheet.has_room() {
+            Ok(())
+        } else {
+            Err(Refusal::SheetFull)
+        }
     }
 
     /// The days of the next row, where it would end on `last`.
@@ -65,6 +69,10 @@ impl<'a, T> Account<'a, T> {
         requires { ⌜ n ≤ 120 ⌝ }
         ensures { λ r. ⌜ Says (leb (length (state-of (now (self .entry)) .lines) + n) (journal-room (opening-of (now (self .entry))))) (λ _. now (self .entry) .journal .filled + n ≤ now (self .entry) .journal .limit) JournalFull r ⌝ }
     {
-        if self.journal.filled + n <= self.journal.limit { Ok(()) } else { Err(Refusal::JournalFull) }
+        if self.journal.filled + n <= self.journal.limit {
+            Ok(())
+        } else {
+            Err(Refusal::JournalFull)
+        }
     }
 }

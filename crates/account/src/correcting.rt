@@ -82,7 +82,14 @@ impl<'a, T: Tariff> Account<'a, T> {
     {
         let hold = self.ask_correct(hold, f, m)?;
         let before = self.journal.filled;
-        let u = relaying::relay_sheet(&mut self.tariff, m, f, hold, &mut self.sheet, &mut self.journal);
+        let u = relaying::relay_sheet(
+            &mut self.tariff,
+            m,
+            f,
+            hold,
+            &mut self.sheet,
+            &mut self.journal,
+        );
         let lines = (self.journal.filled - before) as u32;
         self.sums.correct(u, bills(f), lines);
         Ok(u)

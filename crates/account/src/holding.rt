@@ -50,7 +50,10 @@ impl<'a, T: Tariff> Account<'a, T> {
     {
         let number = self.ask_take(moment, span)?;
         self.granted = number;
-        self.holding = Some(Hold { number, until: moment + span });
+        self.holding = Some(Hold {
+            number,
+            until: moment + span,
+        });
         Ok(number)
     }
 

@@ -18,19 +18,34 @@ use tariff::tariff::Tariff;
 
 /// The most rows that a sheet takes, and the most lines that a journal takes.
 const ROWS: usize = 120;
+
 const LINES: usize = 1024;
 
 impl<'a, T: Tariff> Account<'a, T> {
     /// An account that opens on `day`, over a memory for its rows and one for its lines.
-    pub fn open(tariff: T, day: u64, sheet: &'a mut [Row], journal: &'a mut [Line]) -> Result<Account<'a, T>, Refusal>
-        where T: Drop
+    pub fn open(
+        tariff: T,
+        day: u64,
+        sheet: &'a mut [Row],
+        journal: &'a mut [Line],
+    ) -> Result<Account<'a, T>, Refusal>
+    where
+        T: Drop,
         ensures { λ r. ⌜ Asked (first-no (opening-asked day)) (λ a. Opened (T·Tariff .meaning) a tariff day (now (sheet .entry)) (now (journal .entry))) r ⌝ }
     {
         let opening = Day::new(day)?;
         let sums = Sums::new();
         let sheet = Book::new(sheet, ROWS);
         let journal = Book::new(journal, LINES);
-        Ok(Account { tariff, opening, granted: 0, holding: None, sums, sheet, journal })
+        Ok(Account {
+            tariff,
+            opening,
+            granted: 0,
+            holding: None,
+            sums,
+            sheet,
+            journal,
+        })
     }
 }
 

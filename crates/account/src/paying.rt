@@ -39,7 +39,12 @@ impl<'a, T: Tariff> Account<'a, T> {
         ensures law { λ r. ⌜ Lawful-after (T·Tariff .meaning) (now (self .entry)) (now (self .exit)) (pay hold (cents .0)) ⌝ }
     {
         let Paying { hold, payment } = self.ask_pay(hold, cents)?;
-        let _ = self.journal.append(Line { hold, letter: Letter::Payment, row: None, cents: payment.negated() });
+        let _ = self.journal.append(Line {
+            hold,
+            letter: Letter::Payment,
+            row: None,
+            cents: payment.negated(),
+        });
         self.sums.pay(payment);
         Ok(payment)
     }

@@ -25,20 +25,49 @@ use tariff::rates::FixedCharge;
 use tariff::rates::Rate;
 use tariff::tariff::Tariff;
 
-const ZEROS: Registers = Registers { day: Units { kwh: 0 }, peak: Units { kwh: 0 }, demand: Demand { kva: 0 } };
-const ONE_DAY: Term = Term { first: Day { number: 0 }, last: Day { number: 0 } };
+const ZEROS: Registers = Registers {
+    day: Units { kwh: 0 },
+    peak: Units { kwh: 0 },
+    demand: Demand { kva: 0 },
+};
 
-pub(crate) const BLANK: Row = Row { term: ONE_DAY, sort: Sort::Read, recorded: ZEROS, standing: ZEROS, charge: Charge { cents: 0 } };
-pub(crate) const EMPTY: Line = Line { hold: 0, letter: Letter::Payment, row: None, cents: Money(0) };
+const ONE_DAY: Term = Term {
+    first: Day { number: 0 },
+    last: Day { number: 0 },
+};
+
+pub(crate) const BLANK: Row = Row {
+    term: ONE_DAY,
+    sort: Sort::Read,
+    recorded: ZEROS,
+    standing: ZEROS,
+    charge: Charge { cents: 0 },
+};
+
+pub(crate) const EMPTY: Line = Line {
+    hold: 0,
+    letter: Letter::Payment,
+    row: None,
+    cents: Money(0),
+};
 
 /// H-1 at 10 kVA.
-pub(crate) const H1: Plain = Plain { rate: Rate { cents: 1_140 }, fixed: FixedCharge { cents: 3_000 } };
+pub(crate) const H1: Plain = Plain {
+    rate: Rate { cents: 1_140 },
+    fixed: FixedCharge { cents: 3_000 },
+};
 
 /// The meter showed 600 where the test meter showed 1,000.
-pub(crate) const SLOW: TestMeter = TestMeter { shown: Units { kwh: 600 }, tested: Units { kwh: 1_000 } };
+pub(crate) const SLOW: TestMeter = TestMeter {
+    shown: Units { kwh: 600 },
+    tested: Units { kwh: 1_000 },
+};
 
 /// The meter showed 1,026 where the test meter showed 1,000.
-pub(crate) const FAST: TestMeter = TestMeter { shown: Units { kwh: 1_026 }, tested: Units { kwh: 1_000 } };
+pub(crate) const FAST: TestMeter = TestMeter {
+    shown: Units { kwh: 1_026 },
+    tested: Units { kwh: 1_000 },
+};
 
 /// A case is played on an account just opened.
 pub(crate) trait Case {
@@ -46,7 +75,13 @@ pub(crate) trait Case {
 }
 
 /// Plays a case on an account that opens on `day`, with memory for this many rows and lines.
-pub(crate) fn play<T: Tariff + Drop, C: Case>(tariff: T, day: u64, rows: usize, lines: usize, case: &C) -> Result<(), Fail> {
+pub(crate) fn play<T: Tariff + Drop, C: Case>(
+    tariff: T,
+    day: u64,
+    rows: usize,
+    lines: usize,
+    case: &C,
+) -> Result<(), Fail> {
     let mut sheet = [BLANK; 130];
     let mut journal = [EMPTY; 1_030];
     if rows > 130 || lines > 1_030 {
@@ -88,20 +123,45 @@ pub(crate) fn later<T>(a: &Account<T>) -> i64 {
 }
 
 pub(crate) fn reading(day: u64, peak: u64, demand: u64) -> Reading {
-    Reading { day: Kwh(day), peak: Kwh(peak), demand: Kva(demand) }
+    Reading {
+        day: Kwh(day),
+        peak: Kwh(peak),
+        demand: Kva(demand),
+    }
 }
 
 /// A finding by the supplier, not ascertained.
 pub(crate) fn found(cause: Cause, notice: u64, first: u64, last: u64) -> Finding {
-    Finding { cause, side: Side::Supplier, notice, ascertained: false, first, last }
+    Finding {
+        cause,
+        side: Side::Supplier,
+        notice,
+        ascertained: false,
+        first,
+        last,
+    }
 }
 
 /// A finding whose dates are known.
 pub(crate) fn ascertained(cause: Cause, first: u64, last: u64) -> Finding {
-    Finding { cause, side: Side::Supplier, notice: 0, ascertained: true, first, last }
+    Finding {
+        cause,
+        side: Side::Supplier,
+        notice: 0,
+        ascertained: true,
+        first,
+        last,
+    }
 }
 
 /// A report by the consumer.
 pub(crate) fn reported(cause: Cause, notice: u64, first: u64, last: u64) -> Finding {
-    Finding { cause, side: Side::Consumer, notice, ascertained: false, first, last }
+    Finding {
+        cause,
+        side: Side::Consumer,
+        notice,
+        ascertained: false,
+        first,
+        last,
+    }
 }

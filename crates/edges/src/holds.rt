@@ -1,6 +1,6 @@
 // Holds at exactly their time, and clerks who come too late.
-use account::account::Account;
 use crate::bench::*;
+use account::account::Account;
 use figures::reported::Cents;
 use method::by_test::TestMeterMethod;
 use method::finding::Cause;
@@ -77,7 +77,9 @@ impl Case for TwoClerksOnOneQuarter as TwoClerksOnOneQuarterCase {
         check_eq(number(a.take(110, 10)), 0)?;
         check_eq(sum(a.correct(2, f, &SLOW)), Some(456_000))?;
         check_eq(number(a.correct(1, f, &SLOW)), 1)?;
-        check_eq(sum(a.correct(2, f, &SLOW)), Some(0)).note("worked out from the recorded units again")?;
+        check_eq(sum(a.correct(2, f, &SLOW)), Some(0)).note(
+            "worked out from the recorded units again",
+        )?;
         check_eq(a.balance().0, 1_143_000)?;
         check_eq(a.due().0, 687_000)
     }

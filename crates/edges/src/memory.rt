@@ -1,6 +1,6 @@
 // Memory that is short, full, or longer than is used.
-use account::account::Account;
 use crate::bench::*;
+use account::account::Account;
 use figures::reported::Cents;
 use std::test::*;
 use tariff::plain::PlainTariff;

@@ -1,6 +1,6 @@
 // Days, periods and readings at their limits.
-use account::account::Account;
 use crate::bench::*;
+use account::account::Account;
 use std::test::*;
 use tariff::plain::PlainTariff;
 use tariff::tariff::Tariff;
@@ -64,7 +64,10 @@ impl Case for UnitsAndDemand as UnitsAndDemandCase {
         check_eq(number(a.bill(1, 0, reading(0, 0, 10_001))), 2)?;
         check_eq(number(a.bill(1, 0, reading(u64::MAX, 0, 0))), 2)?;
         check_eq(number(a.bill(u64::MAX, 0, reading(u64::MAX, 0, 0))), 1)?;
-        check_eq(cents(a.bill(1, 0, reading(1_000_000, 1_000_000, 10_000))), 2_280_003_000)
+        check_eq(
+            cents(a.bill(1, 0, reading(1_000_000, 1_000_000, 10_000))),
+            2_280_003_000,
+        )
     }
 }
 

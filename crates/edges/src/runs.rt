@@ -1,19 +1,19 @@
 // Runs of unmetered rows: from the seventh on no energy is charged.
-use account::account::Account;
 use crate::bench::*;
+use account::account::Account;
 use figures::reported::Kva;
 use figures::reported::Kwh;
+use method::by_test::TestMeterMethod;
 use method::category::Category;
 use method::category::CategoryMethod;
-use method::by_test::TestMeterMethod;
 use method::finding::Cause;
 use method::later_three::LaterThree;
 use method::later_three::LaterThreeMethod;
 use std::test::*;
+use tariff::by_demand::ByDemandTariff;
 use tariff::changeover::Changeover;
 use tariff::changeover::ChangeoverTariff;
 use tariff::hotel::h2;
-use tariff::by_demand::ByDemandTariff;
 use tariff::plain::PlainTariff;
 use tariff::tariff::Tariff;
 
@@ -100,9 +100,18 @@ impl Case for AnAbsentRunCorrected as AnAbsentRunCorrectedCase {
         let Ok(three) = LaterThree::new(a.rows(), 3) else {
             return Err(Fail::new("no later three"));
         };
-        check_eq(number(a.correct(1, found(Cause::Absent, 0, 1, 1), &three)), 6).note("a row of the run left out")?;
-        check_eq(number(a.correct(1, found(Cause::Absent, 0, 0, 2), &three)), 6).note("a read row")?;
-        check_eq(sum(a.correct(1, found(Cause::Absent, 0, 1, 2), &three)), Some(228_000))?;
+        check_eq(
+            number(a.correct(1, found(Cause::Absent, 0, 1, 1), &three)),
+            6,
+        ).note("a row of the run left out")?;
+        check_eq(
+            number(a.correct(1, found(Cause::Absent, 0, 0, 2), &three)),
+            6,
+        ).note("a read row")?;
+        check_eq(
+            sum(a.correct(1, found(Cause::Absent, 0, 1, 2), &three)),
+            Some(228_000),
+        )?;
         check_eq(later(a), 228_000)?;
         check_eq(number(a.bill(1, 69, reading(0, 0, 0))), 0)?;
         check_eq(later(a), 190_000).note("a sixth with each bill")

@@ -28,7 +28,9 @@ impl Day {
         if figure > LAST_DAY as u64 {
             return Err(OutOfLimits);
         }
-        Ok(Day { number: figure as u32 })
+        Ok(Day {
+            number: figure as u32,
+        })
     }
 }
 
@@ -57,13 +59,18 @@ impl Term {
         if first > last.number || last.number + 1 - first > LONGEST {
             return None;
         }
-        Some(Term { first: Day { number: first }, last })
+        Some(Term {
+            first: Day { number: first },
+            last,
+        })
     }
 
     pub fn days(self) -> Days
         ensures { λ r. ⌜ r .count ≡ self .last .number + 1 - self .first .number ⌝ }
     {
-        Days { count: self.last.number + 1 - self.first.number }
+        Days {
+            count: self.last.number + 1 - self.first.number,
+        }
     }
 
     pub fn has(self, day: u64) -> bool

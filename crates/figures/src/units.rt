@@ -20,7 +20,9 @@ impl Units {
         if figure.0 > 1_000_000 {
             return Err(OutOfLimits);
         }
-        Ok(Units { kwh: figure.0 as u32 })
+        Ok(Units {
+            kwh: figure.0 as u32,
+        })
     }
 }
 
@@ -38,7 +40,9 @@ impl Demand {
         if figure.0 > 10_000 {
             return Err(OutOfLimits);
         }
-        Ok(Demand { kva: figure.0 as u32 })
+        Ok(Demand {
+            kva: figure.0 as u32,
+        })
     }
 }
 

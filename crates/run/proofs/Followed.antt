@@ -35,11 +35,11 @@ module _ {T : Type 0} (mean : T → Tariff) where
   follows-more a b d cs c f m =
       by-state a d (cs ++ (c ∷ []))
       (λ h e.
-        m .state
-        ∙ ap (λ (t : Tariff). step t (opening-of b) (state-of b) c .1) (f .tariff)
-        ∙ ap (λ (o : Opening). step (mean (a .tariff)) o (state-of b) c .1) (f .opening)
-        ∙ ap (λ (s : State). step (mean (a .tariff)) (opening-of a) s c .1) (f .state h e)
-        ∙ ap (after (mean (a .tariff)) (opening-of a)) (sym (onto-push h cs c)))
+      m .state
+      ∙ ap (λ (t : Tariff). step t (opening-of b) (state-of b) c .1) (f .tariff)
+      ∙ ap (λ (o : Opening). step (mean (a .tariff)) o (state-of b) c .1) (f .opening)
+      ∙ ap (λ (s : State). step (mean (a .tariff)) (opening-of a) s c .1) (f .state h e)
+      ∙ ap (after (mean (a .tariff)) (opening-of a)) (sym (onto-push h cs c)))
       (m .opening ∙ f .opening) (m .tariff ∙ f .tariff)
 
   -- an account just opened follows the empty run

@@ -10,8 +10,8 @@ ghost use Rattle.sheet.specs.Weighing.{Weighed, Light};
 use crate::laying;
 use crate::laying::Pair;
 use figures::row::Row;
-use method::method::Method;
 use method::finding::Finding;
+use method::method::Method;
 
 /// Whether both shares keep the limit.
 pub(crate) fn fit(s: Pair) -> bool
@@ -27,7 +27,10 @@ pub(crate) fn sum<M: Method>(m: &M, before: Pair, w: Pair) -> Pair
     ensures { λ r. ⌜ (r .day ≡ before .day + w .day) × (r .peak ≡ before .peak + w .peak) ⌝ }
 {
     let _ = m;
-    Pair { day: before.day + w.day, peak: before.peak + w.peak }
+    Pair {
+        day: before.day + w.day,
+        peak: before.peak + w.peak,
+    }
 }
 
 /// How many rows a correction rewrites.

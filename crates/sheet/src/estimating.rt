@@ -13,16 +13,16 @@ use crate::asking;
 use crate::laying;
 use crate::laying::Pair;
 use crate::relaying;
-use figures::row::Row;
 use figures::dates::Term;
 use figures::money::Charge;
+use figures::row::Row;
+use figures::row::Sort;
 use figures::units::Demand;
 use figures::units::Registers;
-use figures::row::Sort;
 use figures::units::Units;
 use method::method::Method;
-use tariff::tariff::charged;
 use tariff::tariff::Tariff;
+use tariff::tariff::charged;
 
 /// How long the run of unmetered rows is, with one row more.
 fn run_on(n: u64, row: Row) -> u64
@@ -56,7 +56,13 @@ pub fn blank(term: Term, sort: Sort) -> Row
         peak: Units { kwh: 0 },
         demand: Demand { kva: 0 },
     };
-    Row { term, sort, recorded: zeros, standing: zeros, charge: Charge { cents: 0 } }
+    Row {
+        term,
+        sort,
+        recorded: zeros,
+        standing: zeros,
+        charge: Charge { cents: 0 },
+    }
 }
 
 /// Whether the method's shares for this row alone keep the limit.
@@ -76,7 +82,13 @@ pub fn unread<T: Tariff, M: Method>(tariff: &mut T, m: &M, late: bool, term: Ter
     if late {
         let row = blank(term, Sort::NoEnergy);
         let charge = charged(tariff, term.last, row.standing);
-        return Row { term, sort: Sort::NoEnergy, recorded: row.recorded, standing: row.standing, charge };
+        return Row {
+            term,
+            sort: Sort::NoEnergy,
+            recorded: row.recorded,
+            standing: row.standing,
+            charge,
+        };
     }
     let none = Pair { day: 0, peak: 0 };
     relaying::restate(tariff, m, none, blank(term, Sort::Estimated))

@@ -8,13 +8,13 @@ ghost use Rattle.figures.specs.View.{regs, sort-of, period-seen};
 ghost use Rattle.method.specs.Uses.{finding-of, cause-of};
 ghost use Rattle.sheet.specs.Weighing.{Weighed, Light};
 use figures::row::Row;
+use figures::row::Sort;
 use figures::units::Register;
 use figures::units::Registers;
-use figures::row::Sort;
 use figures::units::Units;
-use method::method::Method;
 use method::finding::Cause;
 use method::finding::Finding;
+use method::method::Method;
 
 /// Weights of rows, or what is shared by them.
 #[derive(Clone, Copy)]

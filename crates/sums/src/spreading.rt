@@ -10,7 +10,10 @@ use crate::coming::Coming;
 use crate::coming::Instalment;
 use figures::reported::Cents;
 
-const EMPTY: Instalment = Instalment { cents: Cents(0), count: 0 };
+const EMPTY: Instalment = Instalment {
+    cents: Cents(0),
+    count: 0,
+};
 
 /// What b bills, of the n that u is spread over, have brought.
 fn brought(u: Cents, n: u64, b: u64) -> Cents
@@ -25,7 +28,9 @@ impl Coming {
     pub fn new() -> Coming
         ensures { λ r. ⌜ r .places ≡ replicate 12 none ⌝ }
     {
-        Coming { places: [EMPTY; 12] }
+        Coming {
+            places: [EMPTY; 12],
+        }
     }
 
     /// The first is taken off, the others move up, and the twelfth becomes empty.

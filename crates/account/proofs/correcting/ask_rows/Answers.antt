@@ -24,6 +24,8 @@ returns-then-not-shares-fit g c =
     (pass _ _ _ _ (sym (c .if-not-sorts-right .ensures tt)) (pass _ _ _ _ (sym (c .if-not-rule-kept .ensures tt)) (pass _ _ _ _ (sym (c .if-not-may-serve .ensures tt)) (stop _ _ _ (sym (c .if-not-shares-fit .ensures tt))))))
 
 pub returns : need.returns
-returns g c =
-    (pass _ _ _ _ (billed-yes _ _ (c .args .rows .now) (c .if-f .left) (c .if-f-rows .left))
-    (pass _ _ _ _ (sym (c .if-not-sorts-right .ensures tt)) (pass _ _ _ _ (sym (c .if-not-rule-kept .ensures tt)) (pass _ _ _ _ (sym (c .if-not-may-serve .ensures tt)) (pass _ _ _ _ (sym (c .if-not-shares-fit .ensures tt)) refl)))), tt)
+returns g c = (
+  pass _ _ _ _ (billed-yes _ _ (c .args .rows .now) (c .if-f .left) (c .if-f-rows .left))
+      (pass _ _ _ _ (sym (c .if-not-sorts-right .ensures tt)) (pass _ _ _ _ (sym (c .if-not-rule-kept .ensures tt)) (pass _ _ _ _ (sym (c .if-not-may-serve .ensures tt)) (pass _ _ _ _ (sym (c .if-not-shares-fit .ensures tt)) refl)))),
+  tt,
+)

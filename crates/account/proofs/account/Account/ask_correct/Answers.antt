@@ -69,7 +69,9 @@ returns g c =
     let ps = ap (map period-of) (c .rows-rows .ensures) in
     let held = c .in-Continue-hold .ensures tt in
     let n : c .count .result ≡ length (rewritten f 0 (periods-of (state-of a))) = c .count .ensures .value ∙ ap (λ x. length (rewritten f 0 x)) ps in
-    let e : first-no (rows-asked f m (periods-of (state-of a))) ≡ 0 = ap (λ x. first-no (rows-asked f m x)) (sym ps) ∙ c .in-Continue-ask-rows .ensures tt .0 in
-    (pass _ _ _ _ (held .0) (pass _ _ _ _ (c .in-Continue-new .ensures tt .0)
-    (all-asked (rows-asked f m (periods-of (state-of a))) ((10, leb (length (state-of a .lines) + length (rewritten f 0 (periods-of (state-of a)))) (journal-room (opening-of a))) ∷ []) _ refl e
-    (pass _ _ _ _ (ap (λ k. leb (length (state-of a .lines) + k) (journal-room (opening-of a))) (sym n) ∙ c .in-Continue-journal-takes .ensures tt .0) refl))), held .1)
+    let e : first-no (rows-asked f m (periods-of (state-of a))) ≡ 0 = ap (λ x. first-no (rows-asked f m x)) (sym ps) ∙ c .in-Continue-ask-rows .ensures tt .0 in (
+      pass _ _ _ _ (held .0) (pass _ _ _ _ (c .in-Continue-new .ensures tt .0)
+          (all-asked (rows-asked f m (periods-of (state-of a))) ((10, leb (length (state-of a .lines) + length (rewritten f 0 (periods-of (state-of a)))) (journal-room (opening-of a))) ∷ []) _ refl e
+          (pass _ _ _ _ (ap (λ k. leb (length (state-of a .lines) + k) (journal-room (opening-of a))) (sym n) ∙ c .in-Continue-journal-takes .ensures tt .0) refl))),
+      held .1,
+    )

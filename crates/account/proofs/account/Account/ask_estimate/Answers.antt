@@ -95,8 +95,9 @@ returns g c =
     let late = leb 6 (run (periods-of (state-of a))) in
     let asks = share-asked late m place first last in
     let e : first-no asks ≡ 0 =
-    ap (λ l. first-no (share-asked l m place first last)) (sym (c .is-late-late .ensures)) ∙ ap₂ (λ x y. first-no (share-asked (c .is-late-late .result) m place x y)) (sym (term .1 .0)) (sym (term .1 .1 ∙ day .1)) ∙ share .0 in
-    (listed a (c .args .hold) last place first m refl refl
-    ∙ pass _ _ _ _ (held .0) (pass _ _ _ _ (day .0) (pass _ _ _ _ (placed .0) (pass _ _ _ _ (ap (is-term _) (sym (day .1)) ∙ term .0)
-    (all-asked asks ((10, leb (length (state-of a .lines) + 1) (journal-room (opening-of a))) ∷ []) _ refl e (pass _ _ _ _ (room .0) refl))))),
-    (held .1, term .1 .0, term .1 .1 ∙ day .1, c .is-late-late .ensures, share .1, record { sheet = placed .1; journal = room .1 }))
+    ap (λ l. first-no (share-asked l m place first last)) (sym (c .is-late-late .ensures)) ∙ ap₂ (λ x y. first-no (share-asked (c .is-late-late .result) m place x y)) (sym (term .1 .0)) (sym (term .1 .1 ∙ day .1)) ∙ share .0 in (
+      listed a (c .args .hold) last place first m refl refl
+          ∙ pass _ _ _ _ (held .0) (pass _ _ _ _ (day .0) (pass _ _ _ _ (placed .0) (pass _ _ _ _ (ap (is-term _) (sym (day .1)) ∙ term .0)
+          (all-asked asks ((10, leb (length (state-of a .lines) + 1) (journal-room (opening-of a))) ∷ []) _ refl e (pass _ _ _ _ (room .0) refl))))),
+      (held .1, term .1 .0, term .1 .1 ∙ day .1, c .is-late-late .ensures, share .1, record { sheet = placed .1; journal = room .1 }),
+    )
