@@ -6,6 +6,8 @@ mod corrections;
 #[cfg(test)]
 mod holds;
 #[cfg(test)]
+mod lines;
+#[cfg(test)]
 mod memory;
 #[cfg(test)]
 mod periods;

@@ -72,5 +72,9 @@ fn run(rt: &LibcRuntime) -> Result<(), AnyError> {
 }
 
 fn main(rt: LibcRuntime) -> Result<(), AnyError> {
-    rt.report(run(&rt))
+    if let Err(why) = run(&rt) {
+        eprintln!(rt, "statement: {why}")?;
+        return Err(why);
+    }
+    Ok(())
 }
