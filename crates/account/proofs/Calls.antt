@@ -54,13 +54,6 @@ rows-few a rows e = let s = a .«sheet_sound» in let l = a .«sheet_limit» in 
 pub periods-length : {T : Type 0} (a : Account T) → length (periods-of (state-of a)) ≡ a .sheet .filled
 periods-length a = length-map (rows-of (pages-of (a .sheet))) _ ∙ rows-length a
 
--- one line more
-pub lines-more : (p : Pages Line) (l : Line) → p .filled < length (p .memory) → lines-of (written p l) ≡ lines-of p ++ (line-seen l ∷ [])
-lines-more p l h = ap (map line-seen) (take-more-set (p .memory) (p .filled) l h) ∙ map-push line-seen (take (p .filled) (p .memory)) l
-
-pub past-more : {X : Type 0} (p : Pages X) (x : X) → drop (written p x .filled) (written p x .memory) ≡ drop (written p x .filled) (p .memory)
-past-more p x = drop-set-lt (p .filled + 1) (p .memory) (p .filled) x (omega arith)
-
 -- the questions: 0 means that all said yes
 abbrev pub All-yes : List (ℕ × Bool) → Type 0
 All-yes [] = Unit
