@@ -1,4 +1,6 @@
 // One tenant's account.
+#![tactic(auto)]
+
 pub mod account;
 pub mod answer;
 pub mod asking;

@@ -1,4 +1,6 @@
 // The edges of every limit, executed.
+#![tactic(auto)]
+
 #[cfg(test)]
 mod bench;
 #[cfg(test)]

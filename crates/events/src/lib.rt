@@ -1,4 +1,6 @@
 // The events of an account, read from a text: lines, their fields, and the figures that stand in them.
+#![tactic(auto)]
+
 pub mod event;
 pub mod fault;
 mod fields;

@@ -1,4 +1,6 @@
 // The figures of an account, each of a type of its own, its limits in its type.
+#![tactic(auto)]
+
 pub mod dates;
 pub mod limits;
 pub mod line;

@@ -1,4 +1,6 @@
 // Methods: how units are worked out where no reading counts.
+#![tactic(auto)]
+
 pub mod by_test;
 pub mod category;
 pub mod contract_demand;

@@ -1,4 +1,6 @@
 // The office's side of an account: events served, and the page that a statement is written on.
+#![tactic(auto)]
+
 pub mod entries;
 pub mod fault;
 mod memory;

@@ -96,6 +96,7 @@ instalments_sum u n zero = sym (brought_none u n)
 instalments_sum u n (suc k) =
     let before = instalments_sum u n k in
     let more = brought_more u n k in
+    let one_before : brought u n (suc k - 1) ≡ brought u n k = let e : suc k - 1 ≡ k = omega arith in ap (brought u n) e in
     omega arith
 
 pub instalment_rule : InstalmentRule

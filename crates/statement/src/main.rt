@@ -1,5 +1,7 @@
 // The statement of a text of events: the text comes by standard input, the page goes to standard output.
 // Arguments: the tariff's number and the opening day, 1 and 0 where they are absent.
+#![tactic(auto)]
+
 use anyhow::anyhow;
 use office::statement::statement;
 use std::env;

@@ -1,4 +1,6 @@
 // The balance, the amount due and the twelve coming instalments.
+#![tactic(auto)]
+
 pub mod coming;
 pub mod moves;
 pub mod spreading;

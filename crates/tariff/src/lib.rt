@@ -1,4 +1,6 @@
 // Tariffs: what a supplier charges.
+#![tactic(auto)]
+
 pub mod by_demand;
 pub mod changeover;
 pub mod hotel;

@@ -1,4 +1,6 @@
 // The worked figures: what the definitions come to in cases that were worked out by hand.
+#![tactic(auto)]
+
 ghost use Rattle.worked.specs.Worked.{WorkedFigures};
 
 // The definitions give every figure of the table.
