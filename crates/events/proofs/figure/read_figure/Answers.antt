@@ -12,11 +12,11 @@ returns-then-b-lt48 c = record {
       (elim c.then-b-lt48.branch [ then-b-lt48-via-then-b-lt48 w ↦ inl w.if-b-lt48.true | then-b-lt48-via-else-b-lt48+then-b-gt57 w ↦ inr w.if-b-gt57.true ]));
 }
 
-pub overflow-mul-number : goal.overflow-mul-number
-overflow-mul-number c = omega (arith, tens_small c.loop-b.number c.loop-b.b-index c.loop-b.invariant.0 (omega arith))
+pub overflow_mul-number : goal.overflow_mul-number
+overflow_mul-number c = omega (arith, tens_small c.loop-b.number c.loop-b.b-index c.loop-b.invariant.0 (omega arith))
 
-pub overflow-add-number : goal.overflow-add-number
-overflow-add-number c = omega (arith, tens_small c.loop-b.number c.loop-b.b-index c.loop-b.invariant.0 (omega arith))
+pub overflow_add-number : goal.overflow_add-number
+overflow_add-number c = omega (arith, tens_small c.loop-b.number c.loop-b.b-index c.loop-b.invariant.0 (omega arith))
 
 pub loop-b-preserved : goal.loop-b-preserved
 loop-b-preserved c =

@@ -8,8 +8,8 @@ use Rattle.sums.proofs.Tables.{Turn, turn_low, turn_in, turn-out, turn_all, turn
 use Rattle.sums.proofs.spreading.spread.Goals as goal
 use Rattle.sums.proofs.spreading.spread.Goals.{then-before-n, else-before-n}
 
-pub overflow-sub-part : goal.overflow-sub-part
-overflow-sub-part c = omega (arith, brought_more c.args.u.0 c.args.n c.loop-j.j, ap (brought c.args.u.0 c.args.n) (add-one c.loop-j.j))
+pub overflow_sub-part : goal.overflow_sub-part
+overflow_sub-part c = omega (arith, brought_more c.args.u.0 c.args.n c.loop-j.j, ap (brought c.args.u.0 c.args.n) (add-one c.loop-j.j))
 
 pub raise-requires : goal.raise-requires
 raise-requires c =

@@ -10,8 +10,8 @@ use Rattle.account.proofs.Calls.{refused_by, changed_done, grown_limit}
 use Rattle.account.proofs.Corrections.{Correctable, correct_yes, corrected_is, Added, added}
 use Rattle.account.proofs.account.Account.correct.Goals as goal
 
-pub returns-in-err-hold : goal.returns-in-err-hold
-returns-in-err-hold g c =
+pub returns-in_err-hold : goal.returns-in_err-hold
+returns-in_err-hold g c =
     let r = refused_by g.T.Tariff.meaning c.args.self.now (correct c.args.hold (finding_of c.args.f) (g.M.Method.meaning c.args.m.now)) (λ u. u.0) c.from-residual.result c.in-err-hold.field-0.0 c.from-residual.ensures.1 c.in-err-hold.ensures in
     record { after = r.0; law = r.1 }
 
@@ -24,8 +24,8 @@ relay-sheet-u-requires g c =
     let k = a.journal_limit in
     record { few = (omega arith, (s, omega arith)); span = (y.ordered, y.billed); fits = y.fits; sound = (a.journal_sound, omega arith); room = y.room }
 
-pub overflow-cast-lines : goal.overflow-cast-lines
-overflow-cast-lines g c =
+pub overflow_cast-lines : goal.overflow_cast-lines
+overflow_cast-lines g c =
     let a = c.args.self.now in
     let f = finding_of c.args.f in
     let m = g.M.Method.meaning c.args.m.now in
@@ -55,8 +55,8 @@ correct-requires g c =
     let high = u.high in
     record { few = omega (arith, d.within, d.most); within = (omega (arith, ints), omega (arith, ints)); least = c.bills.ensures.least }
 
-pub invariant-of-self : goal.invariant-of-self
-invariant-of-self g c =
+pub invariant_of-self : goal.invariant_of-self
+invariant_of-self g c =
     let a = c.args.self.now in
     let f = finding_of c.args.f in
     let m = g.M.Method.meaning c.args.m.now in

@@ -9,8 +9,8 @@ use Rattle.account.proofs.account.Account.pay.Goals as goal
 abbrev paying : ℕ → ℤ → law.Line
 paying hold cents = record { hold = hold; letter = law.P; row = None; cents = cents }
 
-pub returns-in-err-hold : goal.returns-in-err-hold
-returns-in-err-hold g c =
+pub returns-in_err-hold : goal.returns-in_err-hold
+returns-in_err-hold g c =
     let r = refused_by g.T.Tariff.meaning c.args.self.now (pay c.args.hold c.args.cents.0) (λ p. pos p.cents) c.from-residual.result c.in-err-hold.field-0.0 c.from-residual.ensures.1 c.in-err-hold.ensures in
     record { after = r.0; law = r.1 }
 
@@ -21,8 +21,8 @@ pay-requires g c =
     let l = a.journal_limit in
     omega (arith, a.counted)
 
-pub invariant-of-self : goal.invariant-of-self
-invariant-of-self g c =
+pub invariant_of-self : goal.invariant_of-self
+invariant_of-self g c =
     let a = c.args.self.now in
     let room = c.in-ok-hold.ensures.1.2 in
     let w = grown_by a _ _ _ room refl (appended_by a _ _ room c.append.ensures.after) in

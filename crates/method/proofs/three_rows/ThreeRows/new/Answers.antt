@@ -16,8 +16,8 @@ returns-in-len3-up c =
     let e = three_are xs ys f c.a-item.result c.b-item.result c.c-item.result all three c.a-item.is c.b-item.is c.c-item.is in
     subst (λ ps. ReckonedFrom f ps c.of.result) (sym e) c.of.ensures
 
-pub returns-in-default : goal.returns-in-default
-returns-in-default c =
+pub returns-in_default : goal.returns-in_default
+returns-in_default c =
     let xs = c.args.rows.now in
     let f = c.args.from in
     not_three xs f (omega (arith, ltb-true, length-take (length xs - f) (drop f xs), length-drop f xs))
