@@ -10,48 +10,48 @@ use Rattle.account.specs.declared.answer.Refusal.TheVariants.{Figures}
 use Rattle.account.proofs.Calls.{pass, stop, asked_err, number_least, more_asked, all_asked, rows_few}
 use Rattle.account.proofs.account.Account.ask_correct.Goals as goal
 
-pub ask-rows-requires : goal.ask-rows-requires
-ask-rows-requires g c = rows_few c.args.self.now _ c.rows-rows.ensures
+pub ask_rows-requires : goal.ask_rows-requires
+ask_rows-requires g c = rows_few c.args.self.now _ c.rows-rows.ensures
 
-pub journal-takes-requires : goal.journal-takes-requires
-journal-takes-requires g c = omega (arith, c.count.ensures.few, rows_few c.args.self.now _ c.rows-rows.ensures)
+pub journal_takes-requires : goal.journal_takes-requires
+journal_takes-requires g c = omega (arith, c.count.ensures.few, rows_few c.args.self.now _ c.rows-rows.ensures)
 
-pub returns-in-err-hold : goal.returns-in-err-hold
+pub returns-in_err-hold : goal.returns-in_err-hold
 unfolding asked
-returns-in-err-hold g c =
-    let said = c.in-err-hold.ensures in
-    asked_err _ _ c.from-residual.result c.in-err-hold.field-0.0 c.from-residual.ensures.1 (stop _ _ _ said.0 ∙ sym (ap number_of said.1))
+returns-in_err-hold g c =
+    let said = c.in_err-hold.ensures in
+    asked_err _ _ c.from_residual.result c.in_err-hold.field-0.0 c.from_residual.ensures.1 (stop _ _ _ said.0 ∙ sym (ap number_of said.1))
 
-pub returns-in-err-new : goal.returns-in-err-new
+pub returns-in_err-new : goal.returns-in_err-new
 unfolding asked
-returns-in-err-new g c =
-    asked_err _ _ c.from-residual-in-err-new.result Figures c.from-residual-in-err-new.ensures.1
-    (pass _ _ _ _ c.in-ok-hold.ensures.0 (stop _ _ _ c.in-err-new.ensures))
+returns-in_err-new g c =
+    asked_err _ _ c.from_residual-in_err-new.result Figures c.from_residual-in_err-new.ensures.1
+    (pass _ _ _ _ c.in_ok-hold.ensures.0 (stop _ _ _ c.in_err-new.ensures))
 
-pub returns-in-err-ask-rows : goal.returns-in-err-ask-rows
+pub returns-in_err-ask_rows : goal.returns-in_err-ask_rows
 unfolding asked
-returns-in-err-ask-rows g c =
+returns-in_err-ask_rows g c =
     let a = c.args.self.now in
     let f = finding_of c.args.f in
     let m = g.M.Method.meaning c.args.m.now in
     let ps = ap (map period_of) c.rows-rows.ensures in
-    let e : first_no (rows_asked f m (periods_of (state_of a))) ≡ number_of c.in-err-ask-rows.field-0.0 = ap (λ x. first_no (rows_asked f m x)) (sym ps) ∙ c.in-err-ask-rows.ensures in
-    asked_err _ _ c.from-residual-in-err-ask-rows.result c.in-err-ask-rows.field-0.0 c.from-residual-in-err-ask-rows.ensures.1
-    (pass _ _ _ _ c.in-ok-hold.ensures.0 (pass _ _ _ _ c.in-ok-new.ensures.0
-    (more_asked (rows_asked f m (periods_of (state_of a))) ((10, leb (length (state_of a).lines + length (rewritten f 0 (periods_of (state_of a)))) (journal_room (opening_of a))) ∷ []) _ (number_least c.in-err-ask-rows.field-0.0) e)))
+    let e : first_no (rows_asked f m (periods_of (state_of a))) ≡ number_of c.in_err-ask_rows.field-0.0 = ap (λ x. first_no (rows_asked f m x)) (sym ps) ∙ c.in_err-ask_rows.ensures in
+    asked_err _ _ c.from_residual-in_err-ask_rows.result c.in_err-ask_rows.field-0.0 c.from_residual-in_err-ask_rows.ensures.1
+    (pass _ _ _ _ c.in_ok-hold.ensures.0 (pass _ _ _ _ c.in_ok-new.ensures.0
+    (more_asked (rows_asked f m (periods_of (state_of a))) ((10, leb (length (state_of a).lines + length (rewritten f 0 (periods_of (state_of a)))) (journal_room (opening_of a))) ∷ []) _ (number_least c.in_err-ask_rows.field-0.0) e)))
 
-pub returns-in-err-journal-takes : goal.returns-in-err-journal-takes
+pub returns-in_err-journal_takes : goal.returns-in_err-journal_takes
 unfolding asked
-returns-in-err-journal-takes g c =
+returns-in_err-journal_takes g c =
     let a = c.args.self.now in
     let f = finding_of c.args.f in
     let m = g.M.Method.meaning c.args.m.now in
     let ps = ap (map period_of) c.rows-rows.ensures in
-    let said = c.in-err-journal-takes.ensures in
+    let said = c.in_err-journal_takes.ensures in
     let n : c.count.result ≡ length (rewritten f 0 (periods_of (state_of a))) = c.count.ensures.value ∙ ap (λ x. length (rewritten f 0 x)) ps in
-    let e : first_no (rows_asked f m (periods_of (state_of a))) ≡ 0 = ap (λ x. first_no (rows_asked f m x)) (sym ps) ∙ c.in-ok-ask-rows.ensures.0 in
-    asked_err _ _ c.from-residual-in-err-journal-takes.result c.in-err-journal-takes.field-0.0 c.from-residual-in-err-journal-takes.ensures.1
-    (pass _ _ _ _ c.in-ok-hold.ensures.0 (pass _ _ _ _ c.in-ok-new.ensures.0
+    let e : first_no (rows_asked f m (periods_of (state_of a))) ≡ 0 = ap (λ x. first_no (rows_asked f m x)) (sym ps) ∙ c.in_ok-ask_rows.ensures.0 in
+    asked_err _ _ c.from_residual-in_err-journal_takes.result c.in_err-journal_takes.field-0.0 c.from_residual-in_err-journal_takes.ensures.1
+    (pass _ _ _ _ c.in_ok-hold.ensures.0 (pass _ _ _ _ c.in_ok-new.ensures.0
     (all_asked (rows_asked f m (periods_of (state_of a))) ((10, leb (length (state_of a).lines + length (rewritten f 0 (periods_of (state_of a)))) (journal_room (opening_of a))) ∷ []) _ refl e
     (stop _ _ _ (ap (λ k. leb (length (state_of a).lines + k) (journal_room (opening_of a))) (sym n) ∙ said.0) ∙ sym (ap number_of said.1)))))
 
@@ -62,11 +62,11 @@ returns g c =
     let f = finding_of c.args.f in
     let m = g.M.Method.meaning c.args.m.now in
     let ps = ap (map period_of) c.rows-rows.ensures in
-    let held = c.in-ok-hold.ensures in
+    let held = c.in_ok-hold.ensures in
     let n : c.count.result ≡ length (rewritten f 0 (periods_of (state_of a))) = c.count.ensures.value ∙ ap (λ x. length (rewritten f 0 x)) ps in
-    let e : first_no (rows_asked f m (periods_of (state_of a))) ≡ 0 = ap (λ x. first_no (rows_asked f m x)) (sym ps) ∙ c.in-ok-ask-rows.ensures.0 in (
-      pass _ _ _ _ held.0 (pass _ _ _ _ c.in-ok-new.ensures.0
+    let e : first_no (rows_asked f m (periods_of (state_of a))) ≡ 0 = ap (λ x. first_no (rows_asked f m x)) (sym ps) ∙ c.in_ok-ask_rows.ensures.0 in (
+      pass _ _ _ _ held.0 (pass _ _ _ _ c.in_ok-new.ensures.0
           (all_asked (rows_asked f m (periods_of (state_of a))) ((10, leb (length (state_of a).lines + length (rewritten f 0 (periods_of (state_of a)))) (journal_room (opening_of a))) ∷ []) _ refl e
-          (pass _ _ _ _ (ap (λ k. leb (length (state_of a).lines + k) (journal_room (opening_of a))) (sym n) ∙ c.in-ok-journal-takes.ensures.0) refl))),
+          (pass _ _ _ _ (ap (λ k. leb (length (state_of a).lines + k) (journal_room (opening_of a))) (sym n) ∙ c.in_ok-journal_takes.ensures.0) refl))),
       held.1,
     )

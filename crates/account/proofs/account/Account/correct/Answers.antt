@@ -12,13 +12,13 @@ use Rattle.account.proofs.account.Account.correct.Goals as goal
 
 pub returns-in_err-hold : goal.returns-in_err-hold
 returns-in_err-hold g c =
-    let r = refused_by g.T.Tariff.meaning c.args.self.now (correct c.args.hold (finding_of c.args.f) (g.M.Method.meaning c.args.m.now)) (λ u. u.0) c.from-residual.result c.in-err-hold.field-0.0 c.from-residual.ensures.1 c.in-err-hold.ensures in
+    let r = refused_by g.T.Tariff.meaning c.args.self.now (correct c.args.hold (finding_of c.args.f) (g.M.Method.meaning c.args.m.now)) (λ u. u.0) c.from_residual.result c.in_err-hold.field-0.0 c.from_residual.ensures.1 c.in_err-hold.ensures in
     record { after = r.0; law = r.1 }
 
-pub relay-sheet-u-requires : goal.relay-sheet-u-requires
-relay-sheet-u-requires g c =
+pub relay_sheet-u-requires : goal.relay_sheet-u-requires
+relay_sheet-u-requires g c =
     let a = c.args.self.now in
-    let y = correct_yes a c.args.hold (finding_of c.args.f) (g.M.Method.meaning c.args.m.now) c.in-ok-hold.ensures.0 in
+    let y = correct_yes a c.args.hold (finding_of c.args.f) (g.M.Method.meaning c.args.m.now) c.in_ok-hold.ensures.0 in
     let s = a.sheet_sound in
     let l = a.sheet_limit in
     let k = a.journal_limit in
@@ -29,14 +29,14 @@ overflow_cast-lines g c =
     let a = c.args.self.now in
     let f = finding_of c.args.f in
     let m = g.M.Method.meaning c.args.m.now in
-    let y = correct_yes a c.args.hold f m c.in-ok-hold.ensures.0 in
-    let d = added a _ (g.T.Tariff.meaning a.tariff) c.in-ok-hold.hold f m y c.relay-sheet-u.ensures.lines in
+    let y = correct_yes a c.args.hold f m c.in_ok-hold.ensures.0 in
+    let d = added a _ (g.T.Tariff.meaning a.tariff) c.in_ok-hold.hold f m y c.relay_sheet-u.ensures.lines in
     omega (arith, d.within, d.most)
 
 pub bills-requires : goal.bills-requires
 bills-requires g c =
     let a = c.args.self.now in
-    let y = correct_yes a c.args.hold (finding_of c.args.f) (g.M.Method.meaning c.args.m.now) c.in-ok-hold.ensures.0 in
+    let y = correct_yes a c.args.hold (finding_of c.args.f) (g.M.Method.meaning c.args.m.now) c.in_ok-hold.ensures.0 in
     let s = a.sheet_sound in
     let l = a.sheet_limit in
     (y.ordered, omega (arith, y.billed))
@@ -46,11 +46,11 @@ correct-requires g c =
     let a = c.args.self.now in
     let f = finding_of c.args.f in
     let m = g.M.Method.meaning c.args.m.now in
-    let y = correct_yes a c.args.hold f m c.in-ok-hold.ensures.0 in
-    let d = added a _ (g.T.Tariff.meaning a.tariff) c.in-ok-hold.hold f m y c.relay-sheet-u.ensures.lines in
+    let y = correct_yes a c.args.hold f m c.in_ok-hold.ensures.0 in
+    let d = added a _ (g.T.Tariff.meaning a.tariff) c.in_ok-hold.hold f m y c.relay_sheet-u.ensures.lines in
     let n = a.counted in
     let filled = d.filled in
-    let u = c.relay-sheet-u.ensures.small in
+    let u = c.relay_sheet-u.ensures.small in
     let low = u.low in
     let high = u.high in
     record { few = omega (arith, d.within, d.most); within = (omega (arith, ints), omega (arith, ints)); least = c.bills.ensures.least }
@@ -60,10 +60,10 @@ invariant_of-self g c =
     let a = c.args.self.now in
     let f = finding_of c.args.f in
     let m = g.M.Method.meaning c.args.m.now in
-    let y = correct_yes a c.args.hold f m c.in-ok-hold.ensures.0 in
-    let w = c.relay-sheet-u.ensures.lines in
-    let r = c.relay-sheet-u.ensures.rows in
-    let d = added a _ (g.T.Tariff.meaning a.tariff) c.in-ok-hold.hold f m y w in
+    let y = correct_yes a c.args.hold f m c.in_ok-hold.ensures.0 in
+    let w = c.relay_sheet-u.ensures.lines in
+    let r = c.relay_sheet-u.ensures.rows in
+    let d = added a _ (g.T.Tariff.meaning a.tariff) c.in_ok-hold.hold f m y w in
     let lines = ap (λ (t : Totals). t.lines) c.correct.ensures in
     let n = a.counted in
     let s = a.sheet_sound in
@@ -76,7 +76,7 @@ returns g c =
     let t = mean a.tariff in
     let f = finding_of c.args.f in
     let m = g.M.Method.meaning c.args.m.now in
-    let e = c.relay-sheet-u.ensures in
+    let e = c.relay_sheet-u.ensures in
     let r = changed_done mean a _ _ _ _ (record {
       granted = refl;
       holding = refl;
@@ -87,5 +87,5 @@ returns g c =
       sheet_past = e.rows.past;
       journal = e.lines;
       sums = c.correct.ensures;
-    }) (correct c.args.hold f m) c.relay-sheet-u.result.0 c.in-ok-hold.ensures.0 (e.sum ∙ ap (λ z. cents_of (posts t f m z 0 0 0 (state_of a).rows)) c.in-ok-hold.ensures.1) (corrected_is t (opening_of a) a c.in-ok-hold.hold c.args.hold f m c.relay-sheet-u.result.0 c.bills.result (c.relay-sheet-u.new.journal.filled - a.journal.filled) c.in-ok-hold.ensures.1 e.sum c.bills.ensures.value) in
+    }) (correct c.args.hold f m) c.relay_sheet-u.result.0 c.in_ok-hold.ensures.0 (e.sum ∙ ap (λ z. cents_of (posts t f m z 0 0 0 (state_of a).rows)) c.in_ok-hold.ensures.1) (corrected_is t (opening_of a) a c.in_ok-hold.hold c.args.hold f m c.relay_sheet-u.result.0 c.bills.result (c.relay_sheet-u.new.journal.filled - a.journal.filled) c.in_ok-hold.ensures.1 e.sum c.bills.ensures.value) in
     record { after = r.0; law = r.1 }

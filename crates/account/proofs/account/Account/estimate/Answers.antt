@@ -11,9 +11,9 @@ use Rattle.account.proofs.Rows.{entered_is}
 use Rattle.account.proofs.Estimates.{unread_is}
 use Rattle.account.proofs.account.Account.estimate.Goals as goal
 
-pub returns-in-err-hold : goal.returns-in-err-hold
-returns-in-err-hold g c =
-    let r = refused_by g.T.Tariff.meaning c.args.self.now (estimate c.args.hold c.args.last (g.M.Method.meaning c.args.m.now)) (λ p. pos p.cents) c.from-residual.result c.in-err-hold.field-0.0 c.from-residual.ensures.1 c.in-err-hold.ensures in
+pub returns-in_err-hold : goal.returns-in_err-hold
+returns-in_err-hold g c =
+    let r = refused_by g.T.Tariff.meaning c.args.self.now (estimate c.args.hold c.args.last (g.M.Method.meaning c.args.m.now)) (λ p. pos p.cents) c.from_residual.result c.in_err-hold.field-0.0 c.from_residual.ensures.1 c.in_err-hold.ensures in
     record { after = r.0; law = r.1 }
 
 pub returns : goal.returns
@@ -23,8 +23,8 @@ returns g c =
     let a = c.args.self.now in
     let t = mean a.tariff in
     let m = g.M.Method.meaning c.args.m.now in
-    let said = c.in-ok-hold.ensures in
-    let b = c.in-ok-hold.field-0 in
+    let said = c.in_ok-hold.ensures in
+    let b = c.in_ok-hold.field-0 in
     let last = c.args.last in
     let ps = periods_of (state_of a) in
     let first = next_day a.opening.number ps in

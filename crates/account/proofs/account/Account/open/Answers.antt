@@ -4,7 +4,7 @@ use Rattle.account.proofs.account.Account.open.Goals as goal
 
 pub returns : goal.returns
 returns g c =
-    let said = c.in-ok-opening.ensures in (
+    let said = c.in_ok-opening.ensures in (
       pass _ _ _ _ said.0 refl,
       opened_is g.T.Tariff.meaning _ c.args.day c.args.sheet.now c.args.journal.now said.1 refl refl c.new-sums.ensures c.new-sheet.ensures.made c.new-journal.ensures.made,
     )

@@ -11,20 +11,20 @@ paying hold cents = record { hold = hold; letter = law.P; row = None; cents = ce
 
 pub returns-in_err-hold : goal.returns-in_err-hold
 returns-in_err-hold g c =
-    let r = refused_by g.T.Tariff.meaning c.args.self.now (pay c.args.hold c.args.cents.0) (λ p. pos p.cents) c.from-residual.result c.in-err-hold.field-0.0 c.from-residual.ensures.1 c.in-err-hold.ensures in
+    let r = refused_by g.T.Tariff.meaning c.args.self.now (pay c.args.hold c.args.cents.0) (λ p. pos p.cents) c.from_residual.result c.in_err-hold.field-0.0 c.from_residual.ensures.1 c.in_err-hold.ensures in
     record { after = r.0; law = r.1 }
 
 pub pay-requires : goal.pay-requires
 pay-requires g c =
     let a = c.args.self.now in
-    let room = c.in-ok-hold.ensures.1.2 in
+    let room = c.in_ok-hold.ensures.1.2 in
     let l = a.journal_limit in
     omega (arith, a.counted)
 
 pub invariant_of-self : goal.invariant_of-self
 invariant_of-self g c =
     let a = c.args.self.now in
-    let room = c.in-ok-hold.ensures.1.2 in
+    let room = c.in_ok-hold.ensures.1.2 in
     let w = grown_by a _ _ _ room refl (appended_by a _ _ room c.append.ensures.after) in
     let lines = ap (λ (t : Totals). t.lines) c.pay.ensures in
     (a.sheet_sound, (a.sheet_limit, (omega (arith, w.filled, w.limit), (grown_limit a _ _ w, (lines ∙ ap (λ n. n + 1) a.counted ∙ sym w.filled, tt)))))
@@ -33,8 +33,8 @@ pub returns : goal.returns
 unfolding effect
 returns g c =
     let a = c.args.self.now in
-    let said = c.in-ok-hold.ensures in
-    let p = c.in-ok-hold.field-0 in
+    let said = c.in_ok-hold.ensures in
+    let p = c.in_ok-hold.field-0 in
     let hold = c.args.hold in
     let cents = c.args.cents.0 in
     let seen : paying p.hold c.negated.result.0 ≡ paying hold (neg_ℤ (pos cents)) = ap₂ paying said.1.0 (c.negated.ensures ∙ ap (λ n. neg_ℤ (pos n)) said.1.1) in

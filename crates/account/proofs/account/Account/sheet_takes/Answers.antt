@@ -5,13 +5,13 @@ use Rattle.book.specs.Pages.{pages_of}
 use Rattle.account.proofs.Calls.{sheet_pages_sound, place_said}
 use Rattle.account.proofs.account.Account.sheet_takes.Goals as goal
 
-pub returns-then-has-room : goal.returns-then-has-room
-returns-then-has-room g c =
+pub returns-then-has_room : goal.returns-then-has_room
+returns-then-has_room g c =
     let a = c.args.self.now in
-    let said = sym (room_by_limit (pages_of a.sheet) (sheet_pages_sound a)) ∙ sym c.if-has-room.ensures in
+    let said = sym (room_by_limit (pages_of a.sheet) (sheet_pages_sound a)) ∙ sym c.if-has_room.ensures in
     (place_said a ∙ said, ltb-true _ _ said)
 
-pub returns-else-has-room : goal.returns-else-has-room
-returns-else-has-room g c =
+pub returns-else-has_room : goal.returns-else-has_room
+returns-else-has_room g c =
     let a = c.args.self.now in
-    (place_said a ∙ sym (room_by_limit (pages_of a.sheet) (sheet_pages_sound a)) ∙ sym c.if-has-room.ensures, refl)
+    (place_said a ∙ sym (room_by_limit (pages_of a.sheet) (sheet_pages_sound a)) ∙ sym c.if-has_room.ensures, refl)
