@@ -67,7 +67,13 @@ invariant_of-self g c =
     let lines = ap (λ (t : Totals). t.lines) c.correct.ensures in
     let n = a.counted in
     let s = a.sheet_sound in
-    (omega (arith, r.filled, r.limit), (r.limit ∙ a.sheet_limit ∙ ap (λ k. min k 120) (sym r.size), (omega (arith, d.within, w.limit), (grown_limit a _ _ w, (omega (arith, lines, d.filled), tt)))))
+    record {
+      sheet_sound = omega (arith, r.filled, r.limit);
+      sheet_limit = r.limit ∙ a.sheet_limit ∙ ap (λ k. min k 120) (sym r.size);
+      journal_sound = omega (arith, d.within, w.limit);
+      journal_limit = grown_limit a _ _ w;
+      counted = omega (arith, lines, d.filled);
+    }
 
 pub returns : goal.returns
 returns g c =
