@@ -29,7 +29,7 @@ pub record Going {T : Type 0} (mean : T → Tariff) (a b : Account T) (p q : Pag
   pub state : state_of b ≡ after (mean a.tariff) (opening_of a) made
   pub opening : opening_of b ≡ opening_of a
   pub tariff : mean b.tariff ≡ mean a.tariff
-  pub lent : q.bytes.name ≡ p.bytes.name
+  pub lent : q.bytes.ghost_name ≡ p.bytes.ghost_name
   pub page : Wrote p q written
   pub answers : written ++ replies (mean a.tariff) (opening_of a) made left ≡ replies (mean a.tariff) (opening_of a) [] all
   pub heard_all : calls made left ≡ calls [] all
@@ -48,7 +48,7 @@ module _ {T : Type 0} (mean : T → Tariff) (a : Account T) (p : Page) (all : Li
     heard_all = ap (calls []) is;
   }
 
-  pub going_more : (b d : Account T) (q r : Page) (l : List ℕ) (rest left : List (List ℕ)) (z : Result ℤ Fault) → Going mean a b p q all left → left ≡ l ∷ rest → Served mean b d (event_of l) z → r.bytes.name ≡ q.bytes.name → Wrote q r (told z) → Going mean a d p r all rest
+  pub going_more : (b d : Account T) (q r : Page) (l : List ℕ) (rest left : List (List ℕ)) (z : Result ℤ Fault) → Going mean a b p q all left → left ≡ l ∷ rest → Served mean b d (event_of l) z → r.bytes.ghost_name ≡ q.bytes.ghost_name → Wrote q r (told z) → Going mean a d p r all rest
   going_more b d q r l rest left z g is s lent w =
       let t = mean a.tariff in
       let o = opening_of a in

@@ -8,13 +8,13 @@ use Rattle.rules.specs.Machine.{after, shown}
 use Rattle.rules.proofs.Stands.{account_law}
 use Rattle.tariff.specs.Hotel.{numbered}
 use Rattle.events.specs.Lines.{lines}
-use Rattle.office.specs.Statement.{calls, result}
+use Rattle.office.specs.Statement.{calls, result_text}
 use Rattle.office.specs.Office.{opened_on, text_asked, is_tariff, asked, page_for, Stated, LawfulPage}
 
 -- an accepted page shows an account that keeps the law
-lawful_page : (t : Tariff) (o : Opening) (text page : List ℕ) (n number : ℕ) → page ≡ page_for n number (result t o (lines text)) → number ≡ 0 → LawfulPage t o text page
+lawful_page : (t : Tariff) (o : Opening) (text page : List ℕ) (n number : ℕ) → page ≡ page_for n number (result_text t o (lines text)) → number ≡ 0 → LawfulPage t o text page
 lawful_page t o text page n number e accepted =
-    let w = result t o (lines text) in
+    let w = result_text t o (lines text) in
     let is : page ≡ w ++ replicate (n - length w) 0 = e ∙ simp (eq-eqb _ _ accepted) in
     let long : length page ≡ length w + (n - length w) = ap length is ∙ simp (length-append, length-replicate) in
     let rest : n - length w ≡ length page - length w = omega arith in

@@ -5,7 +5,7 @@ use Rattle.rules.specs.Questions.{is_day, first_no}
 use Rattle.rules.specs.Law.{Shown, Law}
 use Rattle.tariff.specs.Hotel.{numbered}
 use Rattle.events.specs.Lines.{lines}
-use Rattle.office.specs.Statement.{calls, replies, shown_text, result}
+use Rattle.office.specs.Statement.{calls, replies, shown_text, result_text}
 
 -- an account with room for 120 rows and 1,024 lines
 abbrev pub opened_on : (day : ℕ) → Opening
@@ -16,7 +16,7 @@ is_text text = nat_le 1 (length text) && nat_le (length text) 65536
 
 -- with a page of n bytes: 22, is the text 1 to 65,536 bytes? 21, does the result fit?
 abbrev pub text_asked : Tariff → Opening → (text : List ℕ) → (n : ℕ) → List (ℕ × Bool)
-text_asked t o text n = (22, is_text text) ∷ (21, nat_le (length (result t o (lines text))) n) ∷ []
+text_asked t o text n = (22, is_text text) ∷ (21, nat_le (length (result_text t o (lines text))) n) ∷ []
 
 abbrev pub is_tariff : (number : ℕ) → Bool
 is_tariff number = nat_le 1 number && nat_le number 4
@@ -36,8 +36,8 @@ page_for n number written = cond (number == 0) (written ++ replicate (n - length
 -- a statement that asked these questions answered number and value, and left the page so
 pub record Stated (t : Tariff) (o : Opening) (questions : List (ℕ × Bool)) (text before left : List ℕ) (number value : ℕ) : Type 0 where
   pub answered : number ≡ first_no questions
-  pub counted : value ≡ value_for number (result t o (lines text))
-  pub page : left ≡ page_for (length before) number (result t o (lines text))
+  pub counted : value ≡ value_for number (result_text t o (lines text))
+  pub page : left ≡ page_for (length before) number (result_text t o (lines text))
 
 -- the account that the page shows keeps the law over the calls that the text makes
 pub record LawfulPage (t : Tariff) (o : Opening) (text page : List ℕ) : Type 0 where

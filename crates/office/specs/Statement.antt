@@ -49,5 +49,5 @@ abbrev pub shown_text : Shown → List ℕ
 shown_text a = flat_map journal_line a.lines ++ sums_line a.balance a.due
 
 -- the result: the answers, and then the account after all calls
-abbrev pub result : Tariff → Opening → List (List ℕ) → List ℕ
-result t o ls = replies t o [] ls ++ shown_text (shown (after t o (calls [] ls)))
+abbrev pub result_text : Tariff → Opening → List (List ℕ) → List ℕ
+result_text t o ls = replies t o [] ls ++ shown_text (shown (after t o (calls [] ls)))

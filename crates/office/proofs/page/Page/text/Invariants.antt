@@ -3,4 +3,4 @@ use Rattle.office.specs.Pages.{Wrote}
 use Rattle.office.proofs.page.Page.text.Given as goal
 
 abbrev pub invariant-loop-byte : goal.invariant-loop-byte
-invariant-loop-byte l = (l.self.bytes.name ≡ l.initial.self.bytes.name) × Wrote l.initial.self l.self (take l.byte-index l.text)
+invariant-loop-byte l = (l.self.bytes.ghost_name ≡ l.initial.self.bytes.ghost_name) × Wrote l.initial.self l.self (take l.byte-index l.text)
