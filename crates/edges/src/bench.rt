@@ -9,6 +9,7 @@ use figures::row::{Row, Sort};
 use figures::units::{Demand, Registers, Units};
 use method::finding::{Cause, Finding, Side};
 use method::test_meter::TestMeter;
+use std::process::Abort;
 use std::test::Fail;
 use tariff::plain::Plain;
 use tariff::rates::{FixedCharge, Rate};
@@ -60,11 +61,12 @@ pub(crate) const FAST: TestMeter = TestMeter {
 
 /// A case is played on an account just opened.
 pub(crate) trait Case {
-    fn play<T: Tariff>(&self, a: &mut Account<T>) -> Result<(), Fail>;
+    fn play<T: Tariff, R: Abort>(&self, rt: &R, a: &mut Account<T>) -> Result<(), Fail>;
 }
 
 /// Plays a case on an account that opens on `day`, with memory for this many rows and lines.
-pub(crate) fn play<T: Tariff + Drop, C: Case>(
+pub(crate) fn play<T: Tariff + Drop, C: Case, R: Abort>(
+    rt: &R,
     tariff: T,
     day: u64,
     rows: usize,
@@ -77,7 +79,7 @@ pub(crate) fn play<T: Tariff + Drop, C: Case>(
         return Err(Fail::new("no such memory"));
     }
     match Account::open(tariff, day, &mut sheet[0..rows], &mut journal[0..lines]) {
-        Ok(mut a) => case.play(&mut a),
+        Ok(mut a) => case.play(rt, &mut a),
         Err(_) => Err(Fail::new("not opened")),
     }
 }

@@ -50,12 +50,12 @@ fn digits(rt: HostRuntime) -> Result<(), Fail> {
     Ok(())
 }
 
-/// Whether the page holds `result`, and then zeros.
-fn holds(page: &[u8], res: &[u8]) -> bool {
-    if page.len() < res.len() || &page[0..result.len()] != res {
+/// Whether the page holds what is expected, and then zeros.
+fn holds(page: &[u8], expected: &[u8]) -> bool {
+    if page.len() < expected.len() || &page[0..expected.len()] != expected {
         return false;
     }
-    for b in &page[res.len()..] {
+    for b in &page[expected.len()..] {
         if *b != 0 {
             return false;
         }
