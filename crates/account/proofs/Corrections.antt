@@ -1,10 +1,10 @@
 -- What a correction rests on. Assumes nothing.
-use Rattle.std.proofs.Common.{◌≡◌, ℕ, ◌+◌, ◌-◌, ◌<◌, ◌≤◌, Bool, true, false, cond, ◌&&◌, ltb, leb, ◌⊎◌, List, [], ◌∷◌, ◌++◌, map, length, take, ℤ, sym, refl, ap, ◌∙◌, subst, ap₂, ⊎_elim, arith}
-use Rattle.std.proofs.lemmas.List.{length-map, length-take-le}
-use Rattle.std.proofs.lemmas.Bool.{cond-true, cond-false, and_from, and_left, and_right, and_parts, le-leb, lt-leb, lt-ltb, le-ltb, leb-true, ltb-true}
+use Rattle.std.proofs.Common.{◌≡◌, ℕ, ◌+◌, ◌<◌, ◌≤◌, true, false, ◌&&◌, ltb, leb, ◌⊎◌, List, map, length, ℤ, sym, refl, ap, ◌∙◌, ap₂, ⊎_elim, arith}
+use Rattle.std.proofs.lemmas.List.{length-map}
+use Rattle.std.proofs.lemmas.Bool.{and_from, and_left, and_right, and_parts, le-leb, lt-leb, lt-ltb, le-ltb, leb-true, ltb-true}
 use Rattle.rules.specs.Subject.{Tariff, Opening, Finding, Method, correct}
 use Rattle.rules.specs.Laid.{rewritten, corrected}
-use Rattle.rules.specs.Questions.{first_no, question, asked, all_fit, bills}
+use Rattle.rules.specs.Questions.{question, asked, all_fit, bills}
 use Rattle.rules.specs.Machine.{periods_of, view, relay, posts, cents_of, effect}
 use Rattle.rules.proofs.Runs.{length-posts}
 use Rattle.book.specs.Pages.{Pages, pages_of}

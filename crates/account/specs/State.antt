@@ -1,10 +1,10 @@
 -- The account as the rules have it, and what every call promises. Assumes nothing.
-use Rattle.std.specs.Prelude.{◌≡◌, ℕ, ◌+◌, ◌<◌, ◌≤◌, Bool, cond, List, [], ◌∷◌, map, length, take, drop, ℤ, pos, Some, None, Option}
+use Rattle.std.specs.Prelude.{◌≡◌, ℕ, ◌+◌, ◌<◌, ◌≤◌, List, [], ◌∷◌, map, length, drop, Some, None, Option}
 use Rattle.rules.specs.Subject.{Tariff, Call, Opening}
 use Rattle.rules.specs.Questions as rules
 use Rattle.rules.specs.Law as law
 use Rattle.rules.specs.Machine.{State, Answer, step, after, shown}
-use Rattle.book.specs.Pages.{Pages, pages_of}
+use Rattle.book.specs.Pages.{pages_of}
 use Rattle.figures.specs.declared.row.Row.{Row}
 use Rattle.figures.specs.declared.line.Line.{Line}
 use Rattle.sheet.specs.Lines.{lines_of, Grown}

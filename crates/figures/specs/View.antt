@@ -1,5 +1,4 @@
 -- The figures of the code as the rules have them, their limits forgotten. Assumes nothing.
-use Rattle.std.specs.Prelude.{ℕ}
 use Rattle.rules.specs.Subject as rules
 use Rattle.rules.specs.Law as law
 use Rattle.figures.specs.declared.reported.Reading.{Reading}

@@ -1,5 +1,5 @@
 -- What the code makes is the method that is meant. Assumes nothing.
-use Rattle.std.proofs.Common.{◌≡◌, ℕ, zero, suc, ◌+◌, ◌*◌, ◌/◌, ◌≤◌, Bool, Ok, Err, Result, sym, refl, ap, ◌∙◌, arith}
+use Rattle.std.proofs.Common.{◌≡◌, ℕ, zero, suc, ◌+◌, ◌*◌, ◌/◌, ◌≤◌, Ok, Err, sym, refl, ap, arith}
 use Rattle.rules.specs.Subject.{Method}
 use Rattle.rules.specs.Questions.{first_no}
 use Rattle.method.specs.declared.fault.MethodFault.{MethodFault}

@@ -1,8 +1,8 @@
 -- Methods that ask and give the same are the same: their limits add nothing to what they are. Assumes nothing.
-use Rattle.std.proofs.Common.{◌≡◌, ℕ, ◌*◌, ◌≤◌, Bool}
+use Rattle.std.proofs.Common.{◌≡◌, ℕ, ◌*◌, ◌≤◌}
 use mathlib.Core.HLevel.{is_prop→PathP, Π_prop}
 use native.Mathlib.Bridge.{le_prop}
-use Rattle.rules.specs.Subject.{Registers, InLimits, Register, longest, Use, Method}
+use Rattle.rules.specs.Subject.{Registers, InLimits, Register, longest, Method}
 
 pub same_method : (s t : Method) → s.serves ≡ t.serves → s.fits ≡ t.fits → s.upper ≡ t.upper → s.lower ≡ t.lower → s.weight ≡ t.weight → s.demand ≡ t.demand → s ≡ t
 same_method s t serves fits upper lower weight demand i = record {

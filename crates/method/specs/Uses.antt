@@ -1,5 +1,4 @@
 -- The causes and findings of the code, as the subject has them. Assumes nothing.
-use Rattle.std.specs.Prelude.{Bool, true, false}
 use Rattle.rules.specs.Subject as rules
 use Rattle.method.specs.declared.finding.Cause.{Cause}
 use Rattle.method.specs.declared.finding.Cause.TheVariants.{Absent, Under, Over, Stopped, Altered}

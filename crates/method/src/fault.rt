@@ -27,12 +27,12 @@ impl MethodFault {
         ensures { result ≡ number_of self }
     {
         match self {
-            MethodFault::Figures => 2,
-            MethodFault::NoTest => 13,
-            MethodFault::NoMeter => 14,
-            MethodFault::TooClose => 15,
-            MethodFault::NotRead => 16,
-            MethodFault::NoUnits => 17,
+            Self::Figures => 2,
+            Self::NoTest => 13,
+            Self::NoMeter => 14,
+            Self::TooClose => 15,
+            Self::NotRead => 16,
+            Self::NoUnits => 17,
         }
     }
 }

@@ -1,19 +1,18 @@
 -- The amount due and the coming instalments. Assumes nothing.
-use Rattle.std.proofs.Common.{◌≡◌, ℕ, zero, suc, ◌+◌, ◌-◌, ◌*◌, ◌/◌, ◌<◌, ◌≤◌, min, Bool, true, false, cond, ◌&&◌, ◌||◌, eqb, ltb, leb, List, [], ◌∷◌, ◌++◌, map, length, ℤ, pos, negsuc, ◌+ℤ◌, ◌-ℤ◌, nat_abs, sym, refl, ap, ◌∙◌, subst, ap₂, inl, inr, ⊎_elim, mul-le-mul_left, mul-zero, zero-mul, mul-div_cancel, arith}
-use native.Mathlib.Nat.{zero-div, div-zero, zero-min}
+use Rattle.std.proofs.Common.{◌≡◌, ℕ, zero, suc, ◌+◌, ◌-◌, ◌<◌, ◌≤◌, Bool, true, false, cond, ◌&&◌, ◌||◌, eqb, ltb, leb, List, [], ◌∷◌, ◌++◌, map, length, ℤ, pos, negsuc, ◌+ℤ◌, ◌-ℤ◌, nat_abs, sym, refl, ap, ◌∙◌, subst, ap₂, arith}
 use lib.Signed.{lt_z}
 use Rattle.std.proofs.lemmas.Bool.{cond_both, cond-true, cond-false, ltb-true, ltb-false, leb-true, leb-false, lt-ltb, le-ltb, eqb-true, and_parts, and_from, and_right, false≢true}
 use Rattle.std.proofs.lemmas.Int.{ints}
 use Rattle.std.proofs.lemmas.List.{length_push}
-use Rattle.rules.specs.Subject.{Period, Tariff, charge, Cause, absent, under, over, stopped, altered, Side, consumer, supplier, Finding, Method, Call, take, hand_back, bill, estimate, correct, pay, Opening}
+use Rattle.rules.specs.Subject.{Period, Tariff, Cause, absent, under, over, stopped, altered, Side, consumer, supplier, Finding, Call, take, hand_back, bill, estimate, correct, pay, Opening}
 use Rattle.rules.specs.Sharing.{brought, instalment}
 use Rattle.rules.specs.Laid.{corrected}
-use Rattle.rules.specs.Questions.{Books, size, bills_of, bills, span_right, row_is, has_day, asked}
+use Rattle.rules.specs.Questions.{size, bills_of, bills, span_right, row_is, has_day, asked}
 use Rattle.rules.specs.Given.{give, given}
-use Rattle.rules.specs.Law.{Row, row_of, Instalment, billed, charged, undercharge, not_yet_due, brings, bringing, instalments, Every}
-use Rattle.rules.specs.Machine.{empty, State, opened, view, first_cents, moved_up, spread, posts, cents_of, bill_row, effect}
+use Rattle.rules.specs.Law.{row_of, Instalment, billed, charged, undercharge, not_yet_due, brings, bringing, instalments, Every}
+use Rattle.rules.specs.Machine.{empty, State, first_cents, moved_up, spread, posts, cents_of, bill_row, effect}
 use Rattle.rules.proofs.Shares.{brought_none, brought_of_none, brought_more, brought_all, brought_late}
-use Rattle.rules.proofs.Runs.{ran, view_ran, rows_ran, Passed}
+use Rattle.rules.proofs.Runs.{ran, rows_ran, Passed}
 use Rattle.rules.proofs.Holds.{answers}
 use Rattle.rules.proofs.Journal.{posts_changes, cents_changes}
 

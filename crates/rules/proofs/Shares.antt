@@ -1,7 +1,7 @@
 -- The laws of the sharing rule and of instalments, for all weights. Assumes nothing.
-use Rattle.std.proofs.Common.{◌≡◌, ℕ, zero, suc, ◌+◌, ◌-◌, ◌*◌, ◌/◌, ◌%◌, ◌<◌, ◌≤◌, min, List, [], ◌∷◌, sym, refl, ap, ◌∙◌, ap₂, add-zero, add_assoc, mul-le-mul_right, mod-lt, add-mul, mul-le-mul_left, mul-zero, div-add-mod', le-div_iff_mul-le, zero-add, zero-mul, div-mul-le_self, mul-div_cancel, arith}
+use Rattle.std.proofs.Common.{◌≡◌, ℕ, zero, suc, ◌+◌, ◌-◌, ◌*◌, ◌/◌, ◌%◌, ◌<◌, ◌≤◌, min, List, [], ◌∷◌, sym, ap, ◌∙◌, add-zero, add_assoc, mod-lt, add-mul, mul-le-mul_left, mul-zero, div-add-mod', le-div_iff_mul-le, zero-add, zero-mul, div-mul-le_self, mul-div_cancel, arith}
 use native.Mathlib.Nat.{div-zero, zero-div, zero-min}
-use Rattle.rules.specs.Sharing.{sum_of, whole, share, shares, brought, instalment, Near, AllNear, Shared, SharingRule, first_instalments, InstalmentRule}
+use Rattle.rules.specs.Sharing.{sum_of, whole, share, shares, brought, Near, AllNear, SharingRule, first_instalments, InstalmentRule}
 
 -- ⌊a ÷ D⌋ rises with a
 pub div_mono : (a b D : ℕ) → a ≤ b → a / D ≤ b / D

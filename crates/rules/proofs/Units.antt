@@ -1,11 +1,10 @@
 -- The units that are laid down: totals, shares, and none from a run's seventh on. Assumes nothing.
-use Rattle.std.proofs.Common.{◌≡◌, ℕ, zero, suc, ◌+◌, ◌-◌, ◌*◌, ◌/◌, ◌<◌, ◌≤◌, Bool, true, false, cond, not, ◌&&◌, ◌||◌, ltb, List, [], ◌∷◌, ◌++◌, sym, refl, ap, ◌∙◌, subst, add-zero, add_assoc, zero-add, zero-mul, arith}
-use native.Mathlib.Nat.{zero-div}
-use Rattle.std.proofs.lemmas.Bool.{cond_both, cond-true, cond-false, ltb-true, and_parts, false≢true, both_ways}
-use Rattle.rules.specs.Subject.{Registers, zeros, day_units, peak_units, Sort, no_energy, estimated, Period, days, is_estimated, is_unmetered, unmetered, Tariff, Cause, absent, under, over, stopped, altered, Finding, Method, day_weight, peak_weight, Call, take, hand_back, bill, estimate, correct, pay, Opening}
-use Rattle.rules.specs.Sharing.{sum_of, whole, share, Near}
-use Rattle.rules.specs.Laid.{next_day, run_on, run_past, run, laid, with_standing, metered, blank, unread, in_span, rewrites_sort, rewrites, rewritten, corrected}
-use Rattle.rules.specs.Questions.{Books, of_sort, every, asked}
+use Rattle.std.proofs.Common.{◌≡◌, ℕ, suc, ◌+◌, ◌≤◌, Bool, true, false, not, ◌||◌, ltb, List, [], ◌∷◌, ◌++◌, sym, refl, ap, ◌∙◌, subst, add-zero, add_assoc, zero-add, arith}
+use Rattle.std.proofs.lemmas.Bool.{cond_both, cond-true, cond-false, ltb-true, and_parts, false≢true}
+use Rattle.rules.specs.Subject.{zeros, day_units, peak_units, no_energy, estimated, Period, is_estimated, unmetered, Tariff, Cause, absent, under, over, stopped, altered, Finding, Method, day_weight, peak_weight, Call, take, hand_back, bill, estimate, correct, pay, Opening}
+use Rattle.rules.specs.Sharing.{sum_of, whole, share}
+use Rattle.rules.specs.Laid.{next_day, run_on, run_past, run, laid, with_standing, blank, unread, in_span, rewrites_sort, rewrites, rewritten, corrected}
+use Rattle.rules.specs.Questions.{of_sort, every, asked}
 use Rattle.rules.specs.Given.{give, given}
 use Rattle.rules.specs.Law.{billed, Every, Each, AddsUp, WholeTotals, Close, CloseShares, NoneFromSeventh}
 use Rattle.rules.proofs.Shares.{whole_none, share_next, share_near}

@@ -1,5 +1,5 @@
 -- What a call lays down for the periods that it adds or rewrites. Assumes nothing.
-use Rattle.std.specs.Prelude.{ℕ, suc, ◌+◌, ◌-◌, Bool, true, false, cond, ◌&&◌, List, [], ◌∷◌, nat_le, nat_lt}
+use Rattle.std.specs.Prelude.{ℕ, suc, ◌+◌, Bool, true, cond, ◌&&◌, List, [], ◌∷◌, nat_le, nat_lt}
 use Rattle.rules.specs.Subject.{Registers, zeros, day_units, peak_units, Sort, read, estimated, no_energy, Period, days, is_estimated, unmetered, Cause, absent, under, over, stopped, altered, Finding, Method, day_weight, peak_weight}
 use Rattle.rules.specs.Sharing.{share}
 

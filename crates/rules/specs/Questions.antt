@@ -1,6 +1,6 @@
 -- The questions before a call is accepted. Assumes nothing.
 use Rattle.std.specs.Prelude.{ℕ, zero, suc, ◌+◌, ◌-◌, min, Bool, true, false, cond, not, ◌&&◌, ◌||◌, leb, List, [], ◌∷◌, length, Some, None, Option, ◌==◌, nat_eq, nat_le, nat_lt}
-use Rattle.rules.specs.Subject.{Registers, longest, Sort, estimated, Period, is_read, is_unmetered, unmetered, Cause, absent, under, over, stopped, altered, Side, consumer, supplier, Finding, estimates, correcting, Method, Call, take, hand_back, bill, estimate, correct, pay, Opening}
+use Rattle.rules.specs.Subject.{Registers, longest, Sort, Period, is_read, is_unmetered, unmetered, Cause, absent, under, over, stopped, altered, Side, consumer, supplier, Finding, estimates, correcting, Call, take, hand_back, bill, estimate, correct, pay, Opening}
 use Rattle.rules.specs.Laid.{next_day, run, unread, in_span, rewritten, corrected}
 
 pub record Hold : Type 0 where

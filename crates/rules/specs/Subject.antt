@@ -1,5 +1,5 @@
 -- The subject: periods, tariffs, methods, calls. Assumes nothing.
-use Rattle.std.specs.Prelude.{ℕ, ◌+◌, ◌-◌, ◌*◌, ◌≤◌, Bool, true, false, List}
+use Rattle.std.specs.Prelude.{ℕ, ◌+◌, ◌-◌, ◌*◌, ◌≤◌, Bool, true, false}
 
 -- day units and peak units in kWh, and a maximum demand in kVA
 pub record Registers : Type 0 where

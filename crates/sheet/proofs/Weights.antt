@@ -1,5 +1,5 @@
 -- Weights of more and more rows. Assumes nothing.
-use Rattle.std.proofs.Common.{◌≡◌, ℕ, ◌+◌, ◌*◌, ◌≤◌, sym, subst, add-mul, zero-mul, arith}
+use Rattle.std.proofs.Common.{◌≡◌, ℕ, ◌+◌, ◌≤◌, sym, subst, add-mul, zero-mul, arith}
 use Rattle.rules.specs.Subject.{Method, day_units, peak_units}
 use Rattle.sheet.specs.Weighing.{Weighed, Light}
 

@@ -1,5 +1,5 @@
 -- Cases worked out by hand, beside what the definitions give. Assumes nothing.
-use Rattle.std.specs.Prelude.{◌≡◌, ℕ, Bool, true, false, cond, List, [], ◌∷◌, map, Ok, Err, Result}
+use Rattle.std.specs.Prelude.{◌≡◌, ℕ, true, cond, List, [], ◌∷◌, map, Ok, Err, Result}
 use Rattle.std.proofs.Common.{lit≤}
 use Rattle.rules.specs.Subject.{Registers, Period, charge_on, Cause, under, over, stopped, altered, consumer, Finding, correcting, Method, take, bill, Opening}
 use Rattle.rules.specs.Sharing.{instalment}

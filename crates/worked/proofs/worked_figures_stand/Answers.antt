@@ -1,6 +1,6 @@
 use Rattle.std.proofs.Common.{refl}
 use Rattle.rules.specs.Sharing.{whole, brought}
-use Rattle.rules.specs.Laid.{unread, rewritten, corrected}
+use Rattle.rules.specs.Laid.{rewritten, corrected}
 use Rattle.rules.specs.Questions.{asked}
 use Rattle.rules.specs.Given.{give, given}
 use Rattle.worked.proofs.worked_figures_stand.Goals as goal

@@ -1,10 +1,10 @@
-use Rattle.std.proofs.Common.{◌≡◌, suc, ◌+◌, ◌-◌, ◌<◌, ◌≤◌, length, get_or, set, sym, refl, ap, ◌∙◌, add-one, arith}
+use Rattle.std.proofs.Common.{◌≡◌, suc, ◌-◌, get_or, set, ap, add-one, arith}
 use Rattle.std.proofs.lemmas.List.{get_or_default}
 use Rattle.std.proofs.lemmas.Bool.{le-leb, lt-leb}
 use Rattle.rules.specs.Sharing.{brought, instalment}
 use Rattle.rules.proofs.Shares.{brought_more}
 use Rattle.sums.specs.Bounds.{seen, none, raised}
-use Rattle.sums.proofs.Tables.{Turn, turn_low, turn_in, turn-out, turn_all, turn_none, turn_same, instalment_most, instalment_is}
+use Rattle.sums.proofs.Tables.{turn_low, turn_in, turn-out, turn_all, turn_same, instalment_most, instalment_is}
 use Rattle.sums.proofs.spreading.spread.Goals as goal
 use Rattle.sums.proofs.spreading.spread.Goals.{then-before-n, else-before-n}
 

@@ -1,4 +1,4 @@
-use Rattle.std.proofs.Common.{◌≡◌, ℕ, ◌+◌, leb, [], ◌∷◌, map, length, sym, refl, ap, ◌∙◌, arith}
+use Rattle.std.proofs.Common.{◌≡◌, ◌+◌, leb, [], ◌∷◌, map, length, sym, refl, ap, ◌∙◌, arith}
 use Rattle.rules.specs.Laid.{rewritten}
 use Rattle.rules.specs.Questions.{asked, first_no, journal_room}
 use Rattle.rules.specs.Machine.{period_of, periods_of}

@@ -1,8 +1,7 @@
-use Rattle.std.proofs.Common.{refl, ◌∙◌, arith}
-use Rattle.std.proofs.lemmas.Bool.{and_from, le-leb, lt-ltb, le-ltb}
+use Rattle.std.proofs.Common.{refl, arith}
 use Rattle.std.proofs.lemmas.Bool.Decides.{nat_tests}
 use Rattle.rules.specs.Questions.{asked}
-use Rattle.account.proofs.Calls.{pass, stop, asked_err}
+use Rattle.account.proofs.Calls.{asked_err}
 use Rattle.account.proofs.account.Account.ask_take.Goals as goal
 
 pub returns-then-moment-gt1000000000000 : goal.returns-then-moment-gt1000000000000

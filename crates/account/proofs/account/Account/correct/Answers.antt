@@ -1,13 +1,12 @@
-use Rattle.std.proofs.Common.{◌≡◌, ℕ, ◌+◌, ◌-◌, min, length, sym, refl, ap, ◌∙◌, arith}
+use Rattle.std.proofs.Common.{◌-◌, min, sym, refl, ap, ◌∙◌, arith}
 use Rattle.std.proofs.lemmas.Int.{ints}
 use Rattle.rules.specs.Subject.{correct}
 use Rattle.rules.specs.Machine.{posts, cents_of}
-use Rattle.book.specs.Pages.{pages_of}
 use Rattle.method.specs.Uses.{finding_of}
 use Rattle.sums.specs.View.{Totals}
 use Rattle.account.specs.State.{state_of, opening_of}
 use Rattle.account.proofs.Calls.{refused_by, changed_done, grown_limit}
-use Rattle.account.proofs.Corrections.{Correctable, correct_yes, corrected_is, Added, added}
+use Rattle.account.proofs.Corrections.{correct_yes, corrected_is, added}
 use Rattle.account.proofs.account.Account.correct.Goals as goal
 
 pub returns-in_err-hold : goal.returns-in_err-hold

@@ -1,4 +1,4 @@
-use Rattle.std.proofs.Common.{◌≡◌, leb, pos, sym, refl, ap, ◌∙◌, ap₂}
+use Rattle.std.proofs.Common.{◌≡◌, leb, pos, sym, ap, ◌∙◌, ap₂}
 use Rattle.rules.specs.Subject.{estimate}
 use Rattle.rules.specs.Laid.{next_day, run, unread}
 use Rattle.rules.specs.Law as law

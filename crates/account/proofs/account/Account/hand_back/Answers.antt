@@ -1,4 +1,4 @@
-use Rattle.std.proofs.Common.{◌≡◌, pos, sym, refl, ap, ◌∙◌}
+use Rattle.std.proofs.Common.{pos, sym, refl, ap, ◌∙◌}
 use Rattle.rules.specs.Subject.{hand_back}
 use Rattle.rules.specs.Questions.{asked}
 use Rattle.rules.specs.Machine.{effect}

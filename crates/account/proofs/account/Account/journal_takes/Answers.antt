@@ -1,7 +1,5 @@
-use Rattle.std.proofs.Common.{◌≡◌, ◌+◌, leb, length, sym, refl, ◌∙◌, ap₂}
+use Rattle.std.proofs.Common.{refl, ◌∙◌}
 use Rattle.std.proofs.lemmas.Bool.{le-leb, lt-leb}
-use Rattle.rules.specs.Questions.{journal_room}
-use Rattle.account.specs.State.{state_of, opening_of}
 use Rattle.account.proofs.Calls.{room_said}
 use Rattle.account.proofs.account.Account.journal_takes.Goals as goal
 

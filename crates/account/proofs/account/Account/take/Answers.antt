@@ -1,6 +1,6 @@
-use Rattle.std.proofs.Common.{◌≡◌, ◌+◌, pos, sym, refl, ap, ◌∙◌, arith}
+use Rattle.std.proofs.Common.{◌+◌, pos, refl, ap}
 use Rattle.rules.specs.Subject.{take}
-use Rattle.rules.specs.Machine.{State, effect}
+use Rattle.rules.specs.Machine.{effect}
 use Rattle.account.specs.State.{state_of}
 use Rattle.account.proofs.Calls.{refused_by, lawful, done, granting}
 use Rattle.account.proofs.account.Account.take.Goals as goal
