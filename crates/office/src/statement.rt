@@ -85,8 +85,7 @@ fn changeover() -> Result<Changeover<Plain, ByDemand>, OutOfLimits>
 }
 
 /// The statement of a text under the tariff of this number, for an account that opens on this day.
-#[unsafe(no_mangle)]
-pub extern "C" fn statement(tariff: u32, opening: u32, text: &[u8], page: &mut [u8]) -> Answer
+pub fn statement(tariff: u32, opening: u32, text: &[u8], page: &mut [u8]) -> Answer
     ensures after { Stated (numbered tariff) (opened_on opening) (asked tariff opening text.now (length page.old))
         text.now page.old page.new result.number result.value }
     ensures law { result.number ≡ 0 → LawfulPage (numbered tariff) (opened_on opening) text.now page.new }
