@@ -1,14 +1,12 @@
 -- What the code makes is the method that is meant. Assumes nothing.
-use Rattle.std.proofs.Common.{◌≡◌, ℕ, zero, suc, ◌+◌, ◌*◌, ◌/◌, ◌≤◌, Ok, Err, sym, refl, ap, arith}
+use Rattle.std.proofs.Common.{◌≡◌, ℕ, zero, suc, ◌+◌, ◌*◌, ◌/◌, Ok, refl, ap, arith}
 use Rattle.rules.specs.Subject.{Method}
 use Rattle.rules.specs.Questions.{first_no}
-use Rattle.method.specs.declared.fault.MethodFault.{MethodFault}
-use Rattle.method.specs.declared.fault.MethodFault.TheVariants.{Figures, NoTest, NoMeter, TooClose, NotRead, NoUnits}
 use Rattle.method.specs.declared.test_meter.TestMeter.{TestMeter}
 use Rattle.method.specs.declared.category.Category.{Category}
 use Rattle.method.specs.declared.contract_demand.ContractDemand.{ContractDemand}
 use Rattle.method.specs.Meaning.{part, daily, test_fits}
-use Rattle.method.specs.Making.{number_of, test_asked, category_asked, contract_asked}
+use Rattle.method.specs.Making.{test_asked, category_asked, contract_asked}
 use Rattle.method.specs.Made.{made_if, test_made, category_made, contract_made}
 use Rattle.method.specs.Meant.{test_of, category_of, contract_of}
 use Rattle.method.proofs.Same.{same_method}
@@ -17,18 +15,6 @@ use Rattle.method.proofs.Same.{same_method}
 pub passed : (q : ℕ) (make : q ≡ 0 → Method) (m : Method) → q ≡ 0 → ((e : q ≡ 0) → m ≡ make e) → Ok m ≡ made_if q make
 passed zero make m all same = ap (λ (x : Method). Ok x) (same refl)
 passed (suc q) make m all same = absurd (omega arith)
-
-numbered : (e : MethodFault) → 1 ≤ number_of e
-numbered Figures = omega arith
-numbered NoTest = omega arith
-numbered NoMeter = omega arith
-numbered TooClose = omega arith
-numbered NotRead = omega arith
-numbered NoUnits = omega arith
-
-pub refused : (q : ℕ) (make : q ≡ 0 → Method) (e : MethodFault) → q ≡ number_of e → Err (number_of e) ≡ made_if q make
-refused zero make e is = absurd (omega (arith, numbered e))
-refused (suc q) make e is = ap (λ (x : ℕ). Err x) (sym is)
 
 pub test_made_of : (m : TestMeter) (shown tested : ℕ) → first_no (test_asked shown tested) ≡ 0 → m.shown.kwh ≡ shown → m.tested.kwh ≡ tested → Ok (test_of m) ≡ test_made shown tested
 test_made_of m shown tested all is-shown is-tested =

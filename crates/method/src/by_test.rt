@@ -2,6 +2,7 @@
 ghost use Rattle.std.specs.Prelude.{◌≡◌, Ok, Err};
 ghost use Rattle.rules.specs.Questions.{first_no};
 ghost use Rattle.method.specs.Making.{number_of, test_asked};
+ghost use Rattle.method.specs.Made.{made_as, test_made};
 ghost use Rattle.method.specs.Meant.{test_of};
 ghost use Rattle.method.specs.Meaning.{measured};
 ghost use Rattle.std.proofs.Common.{rules, arith};
@@ -17,7 +18,8 @@ use figures::units::{Demand, Register, Registers, Units};
 impl TestMeter {
     /// The meter has to be more than 2.5 per cent off, or there is nothing to correct.
     pub fn new(shown: Kwh, tested: Kwh) -> Result<TestMeter, MethodFault>
-        ensures { elim result [ Ok m ↦ (first_no (test_asked shown.0 tested.0) ≡ 0) × (m.shown.kwh ≡ shown.0) × (m.tested.kwh ≡ tested.0) | Err e ↦ first_no (test_asked shown.0 tested.0) ≡ number_of e ] }
+        ensures asked { elim result [ Ok m ↦ (first_no (test_asked shown.0 tested.0) ≡ 0) × (m.shown.kwh ≡ shown.0) × (m.tested.kwh ≡ tested.0) | Err e ↦ first_no (test_asked shown.0 tested.0) ≡ number_of e ] }
+        ensures made { made_as test_of result ≡ test_made shown.0 tested.0 }
     {
         let shown = Units::new(shown)?;
         let tested = Units::new(tested)?;

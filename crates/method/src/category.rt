@@ -2,6 +2,7 @@
 ghost use Rattle.std.specs.Prelude.{◌≡◌, Ok, Err};
 ghost use Rattle.rules.specs.Questions.{first_no};
 ghost use Rattle.method.specs.Making.{number_of, category_asked};
+ghost use Rattle.method.specs.Made.{made_as, category_made};
 ghost use Rattle.method.specs.Meaning.{estimating};
 ghost use Rattle.method.specs.Meant.{category_of};
 ghost use Rattle.std.proofs.Common.{rules};
@@ -24,7 +25,8 @@ pub struct Category {
 
 impl Category {
     pub fn new(figure: Kwh, peak: u64, demand: Kva) -> Result<Category, MethodFault>
-        ensures { elim result [ Ok m ↦ (first_no (category_asked figure.0 peak demand.0) ≡ 0) × (m.figure.kwh ≡ figure.0) × (m.peak.value ≡ peak) × (m.demand.kva ≡ demand.0) | Err e ↦ first_no (category_asked figure.0 peak demand.0) ≡ number_of e ] }
+        ensures asked { elim result [ Ok m ↦ (first_no (category_asked figure.0 peak demand.0) ≡ 0) × (m.figure.kwh ≡ figure.0) × (m.peak.value ≡ peak) × (m.demand.kva ≡ demand.0) | Err e ↦ first_no (category_asked figure.0 peak demand.0) ≡ number_of e ] }
+        ensures made { made_as category_of result ≡ category_made figure.0 peak demand.0 }
     {
         let figure = Units::new(figure)?;
         let peak = Percent::new(peak)?;

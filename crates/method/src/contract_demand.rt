@@ -2,6 +2,7 @@
 ghost use Rattle.std.specs.Prelude.{◌≡◌, ◌≤◌, Ok, Err};
 ghost use Rattle.rules.specs.Questions.{first_no};
 ghost use Rattle.method.specs.Making.{number_of, contract_asked};
+ghost use Rattle.method.specs.Made.{made_as, contract_made};
 ghost use Rattle.method.specs.Meaning.{altering, daily};
 ghost use Rattle.method.specs.Meant.{contract_of};
 ghost use Rattle.std.proofs.Common.{rules};
@@ -32,7 +33,8 @@ impl ContractDemand {
         load: u64,
         peak: u64,
     ) -> Result<ContractDemand, MethodFault>
-        ensures { elim result [ Ok m ↦ (first_no (contract_asked kva.0 utilization power load peak) ≡ 0) × (m.contract.kva ≡ kva.0) × (m.utilization.value ≡ utilization) × (m.power.value ≡ power) × (m.load.value ≡ load) × (m.peak.value ≡ peak) | Err e ↦ first_no (contract_asked kva.0 utilization power load peak) ≡ number_of e ] }
+        ensures asked { elim result [ Ok m ↦ (first_no (contract_asked kva.0 utilization power load peak) ≡ 0) × (m.contract.kva ≡ kva.0) × (m.utilization.value ≡ utilization) × (m.power.value ≡ power) × (m.load.value ≡ load) × (m.peak.value ≡ peak) | Err e ↦ first_no (contract_asked kva.0 utilization power load peak) ≡ number_of e ] }
+        ensures made { made_as contract_of result ≡ contract_made kva.0 utilization power load peak }
     {
         let contract = Contract::new(kva)?;
         let utilization = Percent::new(utilization)?;
