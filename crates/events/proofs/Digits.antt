@@ -7,7 +7,7 @@ use Rattle.std.proofs.lemmas.Bool.Decides.{nat_tests}
 use Rattle.std.specs.Str.{all_ascii_digits}
 use Rattle.events.specs.Figures.{number_on, is_figure, figure_of}
 
--- the parts of `is-figure`
+-- the parts of `is_figure`
 pub record Parts (ds : List ℕ) : Type 0 where
   pub some : 1 ≤ length ds
   pub short : length ds ≤ 13

@@ -6,6 +6,7 @@ use anyhow::anyhow;
 use office::statement::statement;
 use std::env;
 use std::io::{Read, Write};
+use std::process::ExitCode;
 
 /// Room for every result: at most 24 bytes to answer each of 65,536 lines, at most 40 for each of 1,024 journal lines, and the sums.
 const ROOM: usize = 1_614_000;
@@ -76,10 +77,12 @@ fn run(rt: &HostRuntime) -> anyhow::Result<()> {
     Ok(())
 }
 
-fn main(rt: HostRuntime) -> anyhow::Result<()> {
-    if let Err(why) = run(&rt) {
-        eprintln!(rt; "statement: {why}")?;
-        return Err(why);
+fn main(rt: HostRuntime) -> ExitCode {
+    match run(&rt) {
+        Ok(()) => ExitCode::SUCCESS,
+        Err(why) => {
+            let _ = eprintln!(rt; "statement: {why}");
+            ExitCode::FAILURE
+        }
     }
-    Ok(())
 }
