@@ -1,11 +1,10 @@
 // The method by category: what tenants of a kind use in 30 days, for estimates.
-ghost use Rattle.std.specs.Prelude.{◌≡◌, Ok, Err};
+ghost use Rattle.std.specs.Prelude.{◌≡◌, Ok, Err, refl};
 ghost use Rattle.rules.specs.Questions.{first_no};
 ghost use Rattle.method.specs.Making.{number_of, category_asked};
 ghost use Rattle.method.specs.Made.{made_as, category_made};
 ghost use Rattle.method.specs.Meaning.{estimating};
 ghost use Rattle.method.specs.Meant.{category_of};
-ghost use Rattle.std.proofs.Common.{rules};
 
 use crate::fault::MethodFault;
 use crate::finding::Use;
@@ -61,7 +60,7 @@ impl Method for Category {
 
     ghost meaning = { category_of };
 
-    ghost tied = { Prim.search rules };
+    ghost tied = { λ _ _. refl };
 
     fn upper(&self, k: Register) -> u64 {
         self.figure.kwh as u64 * self.peak.part(k).value as u64

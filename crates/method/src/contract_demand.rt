@@ -1,11 +1,10 @@
 // The method by contract demand: what a tenant could use of it, for a meter that was altered.
-ghost use Rattle.std.specs.Prelude.{◌≡◌, ◌≤◌, Ok, Err};
+ghost use Rattle.std.specs.Prelude.{◌≡◌, ◌≤◌, Ok, Err, refl};
 ghost use Rattle.rules.specs.Questions.{first_no};
 ghost use Rattle.method.specs.Making.{number_of, contract_asked};
 ghost use Rattle.method.specs.Made.{made_as, contract_made};
 ghost use Rattle.method.specs.Meaning.{altering, daily};
 ghost use Rattle.method.specs.Meant.{contract_of};
-ghost use Rattle.std.proofs.Common.{rules};
 
 use crate::fault::MethodFault;
 use crate::finding::{Cause, Use};
@@ -81,7 +80,7 @@ impl Method for ContractDemand {
 
     ghost meaning = { contract_of };
 
-    ghost tied = { Prim.search rules };
+    ghost tied = { λ _ _. refl };
 
     fn upper(&self, k: Register) -> u64 {
         self.a_day() * self.peak.part(k).value as u64

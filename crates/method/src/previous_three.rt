@@ -1,5 +1,5 @@
 // The method by the previous three: a span is reckoned as the three rows just before it.
-ghost use Rattle.std.specs.Prelude.{◌≡◌, map, Ok, Err};
+ghost use Rattle.std.specs.Prelude.{◌≡◌, map, Ok, Err, refl};
 ghost use Rattle.rules.specs.Questions.{first_no};
 ghost use Rattle.figures.specs.View.{period_seen};
 ghost use Rattle.method.specs.Making.{number_of, previous_asked};
@@ -7,7 +7,6 @@ ghost use Rattle.method.specs.Meaning.{stopping};
 ghost use Rattle.method.specs.Meant.{previous_of};
 ghost use Rattle.method.specs.Reckoned.{Reckoned};
 ghost use Rattle.method.specs.Three.{three_from};
-ghost use Rattle.std.proofs.Common.{rules};
 
 use crate::fault::MethodFault;
 use crate::finding::{Cause, Use};
@@ -59,7 +58,7 @@ impl Method for PreviousThree {
 
     ghost meaning = { previous_of };
 
-    ghost tied = { Prim.search rules };
+    ghost tied = { λ _ _. refl };
 
     fn upper(&self, k: Register) -> u64 {
         self.three.units(k)
