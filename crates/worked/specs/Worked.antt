@@ -1,12 +1,13 @@
 -- Cases worked out by hand, beside what the definitions give. Assumes nothing.
 use Rattle.std.specs.Prelude.{◌≡◌, ℕ, true, cond, List, [], ◌∷◌, map, Ok, Err, Result}
 use Rattle.std.proofs.Common.{lit≤}
-use Rattle.rules.specs.Subject.{Registers, Period, charge_on, Cause, under, over, stopped, altered, consumer, Finding, correcting, Method, take, bill, Opening}
+use Rattle.rules.specs.Subject.{Registers, day_units, peak_units, Period, charge_on, Cause, under, over, stopped, altered, consumer, Finding, correcting, Method, take, bill, Opening}
 use Rattle.rules.specs.Sharing.{instalment}
 use Rattle.rules.specs.Laid.{metered, rewritten, corrected}
 use Rattle.rules.specs.Questions.{first_no, question}
 use Rattle.rules.specs.Given.{given}
 use Rattle.tariff.specs.Hotel.{hotel_1}
+use Rattle.method.specs.Three.{three_from, units_of, days_of, average_of}
 use Rattle.method.specs.Making.{previous_asked}
 use Rattle.method.specs.Meaning.{by_three, stopping, just_before}
 use Rattle.method.specs.Made.{made_if, test_made, contract_made}
@@ -44,9 +45,15 @@ demands_left f ps m = map (λ p. p.standing.demand) (rewritten f 0 (corrected f 
 abbrev pub fits_over : Method → List ℕ
 fits_over m = cond (m.fits (correcting over) 0 0) 1 0 ∷ []
 
--- the method of those three rows, if it is made
+-- the first three of them
+abbrev pub three : List Period
+three = three_from 0 stopped_after
+
+-- the method by these three, if it is made
 abbrev pub previous_made : Result Method ℕ
-previous_made = made_if (first_no (previous_asked 0 stopped_after)) (λ all. by_three stopping (just_before 0) 900 0 91 0 (lit≤ tt) (lit≤ tt) (lit≤ tt) (lit≤ tt) (lit≤ tt))
+previous_made = made_if (first_no (previous_asked 0 stopped_after)) (λ all.
+    by_three stopping (just_before 0) (units_of day_units three) (units_of peak_units three) (days_of three) (average_of three)
+    (lit≤ tt) (lit≤ tt) (lit≤ tt) (lit≤ tt) (lit≤ tt))
 
 -- an account opened on day 0 and held under hold 1; the number by which a bill up to the last day is refused, or 0
 abbrev pub opening : Opening
