@@ -6,7 +6,7 @@ use Rattle.figures.specs.declared.row.Row.{Row}
 use Rattle.figures.specs.View.{regs, period_seen}
 
 pub in_limits : (r : Registers) → InLimits (regs r)
-in_limits r = record { day = r.day.ok; peak = r.peak.ok; demand = r.demand.ok }
+in_limits r = record { day = omega (arith, r.day.ok); peak = omega (arith, r.peak.ok); demand = omega (arith, r.demand.ok) }
 
 pub few_days : (r : Row) → days (period_seen r) ≤ longest
 few_days r = let a = r.term.ordered in let b = r.term.short in omega arith

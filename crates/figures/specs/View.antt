@@ -16,7 +16,7 @@ abbrev pub reading_of : Reading → rules.Registers
 reading_of r = record { day = r.day.0; peak = r.peak.0; demand = r.demand.0 }
 
 abbrev pub regs : Registers → rules.Registers
-regs r = record { day = r.day.kwh; peak = r.peak.kwh; demand = r.demand.kva }
+regs r = record { day = r.day.figure.0; peak = r.peak.figure.0; demand = r.demand.figure.0 }
 
 abbrev pub register_of : Register → rules.Register
 register_of Day = rules.day_units
@@ -29,15 +29,15 @@ sort_of NoEnergy = rules.no_energy
 
 abbrev pub period_seen : Row → rules.Period
 period_seen r = record {
-  first = r.term.first.number;
-  last = r.term.last.number;
+  first = r.term.first.figure;
+  last = r.term.last.figure;
   sort = sort_of r.sort;
   recorded = regs r.recorded;
   standing = regs r.standing;
 }
 
 abbrev pub seen : Row → law.Row
-seen r = record { period = period_seen r; cents = r.charge.cents }
+seen r = record { period = period_seen r; cents = r.charge.figure.0 }
 
 abbrev pub letter_of : Letter → law.Letter
 letter_of Bill = law.B

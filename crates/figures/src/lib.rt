@@ -8,3 +8,4 @@ pub mod money;
 pub mod reported;
 pub mod row;
 pub mod units;
+pub mod up_to;

@@ -6,14 +6,16 @@ ghost use Rattle.figures.specs.View.{regs, reading_of};
 use crate::reported::{OutOfLimits, Reading};
 use crate::units::{Demand, Registers, Units};
 
-impl Reading {
-    /// The registers that the reading gives, where each figure is in its limits.
-    pub fn registers(self) -> Result<Registers, OutOfLimits>
-        ensures { elim result [ Ok g ↦ (is_reading (reading_of self) ≡ true) × (regs g ≡ reading_of self) | Err _ ↦ is_reading (reading_of self) ≡ false ] }
-    {
-        let day = Units::new(self.day)?;
-        let peak = Units::new(self.peak)?;
-        let demand = Demand::new(self.demand)?;
+/// The registers that a reading gives, where each figure is in its limits.
+impl TryFrom<Reading> for Registers {
+    type Error = OutOfLimits;
+
+    ghost try_from_gives = { λ reading made. elim made [ Ok g ↦ (is_reading (reading_of reading) ≡ true) × (regs g ≡ reading_of reading) | Err _ ↦ is_reading (reading_of reading) ≡ false ] };
+
+    fn try_from(reading: Reading) -> Result<Registers, OutOfLimits> {
+        let day = Units::new(reading.day)?;
+        let peak = Units::new(reading.peak)?;
+        let demand = Demand::new(reading.demand)?;
         Ok(Registers { day, peak, demand })
     }
 }

@@ -16,3 +16,11 @@ pub struct Line {
     pub row: Option<u32>,
     pub cents: Money,
 }
+
+/// What stands in a journal's memory before a line is written there.
+pub const EMPTY: Line = Line {
+    hold: 0,
+    letter: Letter::Payment,
+    row: None,
+    cents: Money(0),
+};

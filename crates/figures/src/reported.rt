@@ -1,4 +1,46 @@
 // Figures as they are reported, each in its unit, in limits or not.
+ghost use Rattle.std.specs.Prelude.{◌≡◌, ℕ};
+
+/// A number of units, of any size.
+pub trait Figure: Copy {
+    ghost size: { Self → ℕ };
+
+    fn size(self) -> u64
+        ensures { result ≡ size self };
+}
+
+/// A figure whose unit is plain.
+impl Figure for u64 {
+    ghost size = { λ n. n };
+
+    fn size(self) -> u64 {
+        self
+    }
+}
+
+impl Figure for Kwh {
+    ghost size = { λ f. f.0 };
+
+    fn size(self) -> u64 {
+        self.0
+    }
+}
+
+impl Figure for Kva {
+    ghost size = { λ f. f.0 };
+
+    fn size(self) -> u64 {
+        self.0
+    }
+}
+
+impl Figure for Cents {
+    ghost size = { λ f. f.0 };
+
+    fn size(self) -> u64 {
+        self.0
+    }
+}
 
 /// Units of energy in kWh, of any size.
 #[derive(Clone, Copy)]

@@ -1,10 +1,15 @@
 // One billed period: a row of the sheet. Each part keeps its own limits, so no row is outside them.
-use crate::dates::Term;
+ghost use Rattle.std.specs.Prelude.{◌≡◌};
+ghost use Rattle.rules.specs.Subject.{days, is_read};
+ghost use Rattle.figures.specs.View.{regs, sort_of, period_seen};
+
+use crate::dates::{Day, Days, Term};
 use crate::money::Charge;
-use crate::units::Registers;
+use crate::reported::Cents;
+use crate::units::{Registers, ZEROS};
 
 /// Read, unmetered and estimated, or unmetered without energy.
-#[derive(Clone, Copy)]
+#[derive(Clone, Copy, Debug, PartialEq, Eq)]
 pub enum Sort {
     Read,
     Estimated,
@@ -19,4 +24,42 @@ pub struct Row {
     pub recorded: Registers,
     pub standing: Registers,
     pub charge: Charge,
+}
+
+/// What of a row a method may weigh.
+#[derive(Clone, Copy)]
+pub struct Recorded {
+    pub days: Days,
+    pub registers: Registers,
+}
+
+/// What stands in a sheet's memory before a row is written there.
+pub const BLANK: Row = Row {
+    term: Term {
+        first: Day { figure: 0 },
+        last: Day { figure: 0 },
+    },
+    sort: Sort::Read,
+    recorded: ZEROS,
+    standing: ZEROS,
+    charge: Charge { figure: Cents(0) },
+};
+
+impl Row {
+    pub fn is_read(&self) -> bool
+        ensures { result ≡ is_read (sort_of self.now.sort) }
+    {
+        self.sort == Sort::Read
+    }
+
+    /// The days and the recorded registers.
+    pub fn metered(&self) -> Recorded
+        ensures days { result.days.count ≡ days (period_seen self.now) }
+        ensures registers { regs result.registers ≡ regs self.now.recorded }
+    {
+        Recorded {
+            days: self.term.days(),
+            registers: self.recorded,
+        }
+    }
 }
