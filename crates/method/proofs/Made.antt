@@ -16,17 +16,17 @@ pub passed : (q : ℕ) (make : q ≡ 0 → Method) (m : Method) → q ≡ 0 → 
 passed zero make m all same = ap (λ (x : Method). Ok x) (same refl)
 passed (suc q) make m all same = absurd (omega arith)
 
-pub test_made_of : (m : TestMeter) (shown tested : ℕ) → first_no (test_asked shown tested) ≡ 0 → m.shown.kwh ≡ shown → m.tested.kwh ≡ tested → Ok (test_of m) ≡ test_made shown tested
+pub test_made_of : (m : TestMeter) (shown tested : ℕ) → first_no (test_asked shown tested) ≡ 0 → m.shown.figure.0 ≡ shown → m.tested.figure.0 ≡ tested → Ok (test_of m) ≡ test_made shown tested
 test_made_of m shown tested all is-shown is-tested =
     passed _ _ (test_of m) all
     (λ e. same_method (test_of m) _ refl (λ i u first last. test_fits (is-shown i) (is-tested i) u) (λ i k. is-tested i) is-shown refl refl)
 
-pub category_made_of : (m : Category) (figure s demand : ℕ) → first_no (category_asked figure s demand) ≡ 0 → m.figure.kwh ≡ figure → m.peak.value ≡ s → m.demand.kva ≡ demand → Ok (category_of m) ≡ category_made figure s demand
+pub category_made_of : (m : Category) (figure s demand : ℕ) → first_no (category_asked figure s demand) ≡ 0 → m.figure.figure.0 ≡ figure → m.peak.figure ≡ s → m.demand.figure.0 ≡ demand → Ok (category_of m) ≡ category_made figure s demand
 category_made_of m figure s demand all is_figure is-s is-demand =
     passed _ _ (category_of m) all
     (λ e. same_method (category_of m) _ refl refl (λ i k. is_figure i * part k (is-s i)) refl refl (λ i days r. is-demand i))
 
-pub contract_made_of : (m : ContractDemand) (kva utilization power load s : ℕ) → first_no (contract_asked kva utilization power load s) ≡ 0 → m.contract.kva ≡ kva → m.utilization.value ≡ utilization → m.power.value ≡ power → m.load.value ≡ load → m.peak.value ≡ s → Ok (contract_of m) ≡ contract_made kva utilization power load s
+pub contract_made_of : (m : ContractDemand) (kva utilization power load s : ℕ) → first_no (contract_asked kva utilization power load s) ≡ 0 → m.contract.figure.0 ≡ kva → m.utilization.figure ≡ utilization → m.power.figure ≡ power → m.load.figure ≡ load → m.peak.figure ≡ s → Ok (contract_of m) ≡ contract_made kva utilization power load s
 contract_made_of m kva utilization power load s all is-kva is-utilization is-power is-load is-s =
     passed _ _ (contract_of m) all
     (λ e. same_method (contract_of m) _ refl refl

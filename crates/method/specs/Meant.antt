@@ -10,19 +10,19 @@ use Rattle.method.specs.declared.later_three.LaterThree.{LaterThree}
 use Rattle.method.specs.Meaning.{by_test, by_category, by_contract, by_three, stopping, missing, just_before, just_after}
 
 abbrev pub test_of : TestMeter → Method
-test_of m = by_test m.shown.kwh m.tested.kwh m.turned m.shown.ok m.tested.ok
+test_of m = by_test m.shown.figure.0 m.tested.figure.0 m.turned m.shown.ok m.tested.ok
 
 abbrev pub category_of : Category → Method
-category_of m = by_category m.figure.kwh m.peak.value m.demand.kva m.figure.ok m.peak.ok m.demand.ok
+category_of m = by_category m.figure.figure.0 m.peak.figure m.demand.figure.0 m.figure.ok m.peak.ok m.demand.ok
 
 abbrev pub contract_of : ContractDemand → Method
 contract_of m =
-    by_contract m.contract.kva m.utilization.value m.power.value m.load.value m.peak.value
+    by_contract m.contract.figure.0 m.utilization.figure m.power.figure m.load.figure m.peak.figure
     m.contract.ok m.utilization.ok m.power.ok m.load.ok m.peak.ok
 
 abbrev pub three_of : (Use → Bool) → (Use → ℕ → ℕ → Bool) → ThreeRows → Method
 three_of uses fitness t =
-    by_three uses fitness t.day t.peak t.days t.demand.kva
+    by_three uses fitness t.day t.peak t.days t.demand.figure.0
     t.day_most t.peak_most t.days_least t.days_most t.demand.ok
 
 abbrev pub previous_of : PreviousThree → Method

@@ -8,7 +8,7 @@ pub record Reckoned (t : ThreeRows) (ps : List Period) : Type 0 where
   pub day : t.day ≡ units_of day_units ps
   pub peak : t.peak ≡ units_of peak_units ps
   pub days : t.days ≡ days_of ps
-  pub demand : t.demand.kva ≡ average_of ps
+  pub demand : t.demand.figure.0 ≡ average_of ps
 
 -- the periods reckoned together, where they are three that were read; the first of them is row f
 abbrev pub ReckonedFrom : (f : ℕ) → List Period → Option ThreeRows → Type 0

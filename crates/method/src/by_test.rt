@@ -1,93 +1,81 @@
 // The method by test meter: how it is made, and what it means.
-ghost use Rattle.std.specs.Prelude.{◌≡◌, Ok, Err, refl};
+ghost use Rattle.std.specs.Prelude.{◌≡◌, Ok, Err};
 ghost use Rattle.rules.specs.Questions.{first_no};
 ghost use Rattle.method.specs.Making.{number_of, test_asked};
 ghost use Rattle.method.specs.Made.{made_as, test_made};
 ghost use Rattle.method.specs.Meant.{test_of};
+ghost use Rattle.method.specs.Uses.{named_by, named_back};
 ghost use Rattle.method.specs.Meaning.{measured};
 
 use crate::fault::MethodFault;
-use crate::finding::{Cause, Use};
-use crate::method::{Method, UseSet};
+use crate::finding::{Cause, Span, Use};
+use crate::method::Method;
 use crate::test_meter::TestMeter;
-use figures::dates::Days;
+use crate::uses::Uses;
 use figures::reported::Kwh;
-use figures::units::{Demand, Register, Registers, Units};
+use figures::row::Recorded;
+use figures::units::{Demand, Register, Units};
 
 impl TestMeter {
     /// The meter has to be more than 2.5 per cent off, or there is nothing to correct.
     pub fn new(shown: Kwh, tested: Kwh) -> Result<TestMeter, MethodFault>
-        ensures asked { elim result [ Ok m ↦ (first_no (test_asked shown.0 tested.0) ≡ 0) × (m.shown.kwh ≡ shown.0) × (m.tested.kwh ≡ tested.0) | Err e ↦ first_no (test_asked shown.0 tested.0) ≡ number_of e ] }
+        ensures asked { elim result [ Ok m ↦ (first_no (test_asked shown.0 tested.0) ≡ 0) × (m.shown.figure.0 ≡ shown.0) × (m.tested.figure.0 ≡ tested.0) | Err e ↦ first_no (test_asked shown.0 tested.0) ≡ number_of e ] }
         ensures made { made_as test_of result ≡ test_made shown.0 tested.0 }
     {
         let shown = Units::new(shown)?;
         let tested = Units::new(tested)?;
-        if tested.kwh == 0 {
+        if tested.figure.0 == 0 {
             return Err(MethodFault::NoTest);
         }
-        if shown.kwh == 0 {
+        if shown.figure.0 == 0 {
             return Err(MethodFault::NoMeter);
         }
-        if 40 * shown.kwh.abs_diff(tested.kwh) <= tested.kwh {
+        if 40 * shown.figure.0.abs_diff(tested.figure.0) <= tested.figure.0 {
             return Err(MethodFault::TooClose);
         }
         Ok(TestMeter { shown, tested })
     }
 }
 
-/// Under- and over-registering.
-#[derive(Clone, Copy)]
-pub struct Measured;
-
-impl UseSet for Measured {
-    ghost set = { λ _. measured };
-
-    fn has(self, u: Use) -> bool {
-        match u {
-            Use::Correcting(Cause::Under) => true,
-            Use::Correcting(Cause::Over) => true,
-            _ => false,
-        }
-    }
-}
-
 impl Method for TestMeter {
-    type Named = Measured;
+    ghost CAUSES = { named_by measured };
 
-    const CAUSES: Measured = Measured;
+    const CAUSES: Uses = Uses {
+        estimates: false,
+        absent: false,
+        under: true,
+        over: true,
+        stopped: false,
+        altered: false,
+    };
 
     ghost meaning = { test_of };
 
-    ghost tied = { λ _ _. refl };
+    ghost tied = { λ _. named_back measured };
 
-    fn upper(&self, k: Register) -> u64 {
-        let _ = k;
-        self.tested.kwh as u64
+    fn upper(&self, _: Register) -> u64 {
+        self.tested.figure.0
     }
 
     fn lower(&self) -> u64 {
-        self.shown.kwh as u64
+        self.shown.figure.0
     }
 
-    fn weight(&self, k: Register, days: Days, r: Registers) -> u64 {
-        let _ = days;
+    fn weight(&self, k: Register, row: Recorded) -> u64 {
         match k {
-            Register::Day => r.day.kwh as u64,
-            Register::Peak => r.peak.kwh as u64,
+            Register::Day => row.registers.day.figure.0,
+            Register::Peak => row.registers.peak.figure.0,
         }
     }
 
-    fn demand(&self, days: Days, r: Registers) -> Demand {
-        let _ = days;
-        r.demand
+    fn demand(&self, row: Recorded) -> Demand {
+        row.registers.demand
     }
 
-    fn fits(&self, u: Use, first: u64, last: u64) -> bool {
-        let _ = first;
-        let _ = last;
+    fn fits(&self, u: Use, _: Span) -> bool {
         match u {
-            Use::Correcting(Cause::Under) => self.shown.kwh < self.tested.kwh,
-            Use::Correcting(Cause::Over) => self.shown.kwh > self.tested.kwh,
+            Use::Correcting(Cause::Under) => self.shown.figure.0 < self.tested.figure.0,
+            Use::Correcting(Cause::Over) => self.shown.figure.0 > self.tested.figure.0,
             _ => false,
         }
     }

@@ -1,18 +1,20 @@
 // The method by contract demand: what a tenant could use of it, for a meter that was altered.
-ghost use Rattle.std.specs.Prelude.{◌≡◌, ◌≤◌, Ok, Err, refl};
+ghost use Rattle.std.specs.Prelude.{◌≡◌, ◌≤◌, Ok, Err};
 ghost use Rattle.rules.specs.Questions.{first_no};
 ghost use Rattle.method.specs.Making.{number_of, contract_asked};
 ghost use Rattle.method.specs.Made.{made_as, contract_made};
+ghost use Rattle.method.specs.Uses.{named_by, named_back};
 ghost use Rattle.method.specs.Meaning.{altering, daily};
 ghost use Rattle.method.specs.Meant.{contract_of};
 
 use crate::fault::MethodFault;
-use crate::finding::{Cause, Use};
-use crate::limits::{Contract, Percent};
-use crate::method::{Method, UseSet};
-use figures::dates::Days;
+use crate::finding::{Span, Use};
+use crate::limits::{Contract, Percent, part};
+use crate::method::Method;
+use crate::uses::Uses;
 use figures::reported::Kva;
-use figures::units::{Demand, Register, Registers};
+use figures::row::Recorded;
+use figures::units::{Demand, Register};
 
 /// The demand, how much of it is utilized, the power and the load factor, and the share of the peak.
 #[derive(Clone, Copy)]
@@ -32,7 +34,7 @@ impl ContractDemand {
         load: u64,
         peak: u64,
     ) -> Result<ContractDemand, MethodFault>
-        ensures asked { elim result [ Ok m ↦ (first_no (contract_asked kva.0 utilization power load peak) ≡ 0) × (m.contract.kva ≡ kva.0) × (m.utilization.value ≡ utilization) × (m.power.value ≡ power) × (m.load.value ≡ load) × (m.peak.value ≡ peak) | Err e ↦ first_no (contract_asked kva.0 utilization power load peak) ≡ number_of e ] }
+        ensures asked { elim result [ Ok m ↦ (first_no (contract_asked kva.0 utilization power load peak) ≡ 0) × (m.contract.figure.0 ≡ kva.0) × (m.utilization.figure ≡ utilization) × (m.power.figure ≡ power) × (m.load.figure ≡ load) × (m.peak.figure ≡ peak) | Err e ↦ first_no (contract_asked kva.0 utilization power load peak) ≡ number_of e ] }
         ensures made { made_as contract_of result ≡ contract_made kva.0 utilization power load peak }
     {
         let contract = Contract::new(kva)?;
@@ -51,63 +53,48 @@ impl ContractDemand {
 
     /// The units of a day, in millionths of a kWh.
     fn a_day(&self) -> u64
-        ensures { (result ≡ daily self.now.contract.kva self.now.utilization.value self.now.power.value self.now.load.value) × (result ≤ 24000000000) }
+        ensures { (result ≡ daily self.now.contract.figure.0 self.now.utilization.figure self.now.power.figure self.now.load.figure) × (result ≤ 24000000000) }
     {
-        let full = self.contract.kva as u64 * 24 * self.utilization.value as u64;
-        full * self.power.value as u64 * self.load.value as u64
-    }
-}
-
-/// Altered meters alone.
-#[derive(Clone, Copy)]
-pub struct Altering;
-
-impl UseSet for Altering {
-    ghost set = { λ _. altering };
-
-    fn has(self, u: Use) -> bool {
-        match u {
-            Use::Correcting(Cause::Altered) => true,
-            _ => false,
-        }
+        let full = self.contract.figure.0 * 24 * self.utilization.figure;
+        full * self.power.figure * self.load.figure
     }
 }
 
 impl Method for ContractDemand {
-    type Named = Altering;
+    ghost CAUSES = { named_by altering };
 
-    const CAUSES: Altering = Altering;
+    const CAUSES: Uses = Uses {
+        estimates: false,
+        absent: false,
+        under: false,
+        over: false,
+        stopped: false,
+        altered: true,
+    };
 
     ghost meaning = { contract_of };
 
-    ghost tied = { λ _ _. refl };
+    ghost tied = { λ _. named_back altering };
 
     fn upper(&self, k: Register) -> u64 {
-        self.a_day() * self.peak.part(k).value as u64
+        self.a_day() * part(self.peak, k).figure
     }
 
     fn lower(&self) -> u64 {
         100_000_000
     }
 
-    fn weight(&self, k: Register, days: Days, r: Registers) -> u64 {
-        let _ = k;
-        let _ = r;
-        days.count as u64
+    fn weight(&self, _: Register, row: Recorded) -> u64 {
+        row.days.count
     }
 
-    fn demand(&self, days: Days, r: Registers) -> Demand {
-        let _ = days;
-        let _ = r;
+    fn demand(&self, _: Recorded) -> Demand {
         Demand {
-            kva: (self.contract.kva * self.utilization.value).div_ceil(100),
+            figure: Kva((self.contract.figure.0 * self.utilization.figure).div_ceil(100)),
         }
     }
 
-    fn fits(&self, u: Use, first: u64, last: u64) -> bool {
-        let _ = u;
-        let _ = first;
-        let _ = last;
+    fn fits(&self, _: Use, _: Span) -> bool {
         true
     }
 }

@@ -5,20 +5,21 @@ ghost use Rattle.method.specs.Making.{number_of};
 
 use figures::reported::OutOfLimits;
 
-#[derive(Clone, Copy)]
+/// Each is numbered as the question that was answered no.
+#[derive(Clone, Copy, Debug, PartialEq, Eq)]
 pub enum MethodFault {
     /// A figure is out of its limits.
-    Figures,
+    Figures = 2,
     /// The test meter showed nothing.
-    NoTest,
+    NoTest = 13,
     /// The meter showed nothing.
-    NoMeter,
+    NoMeter = 14,
     /// The meter is within 2.5 per cent of the test meter.
-    TooClose,
+    TooClose = 15,
     /// Three rows are not billed, or not read.
-    NotRead,
+    NotRead = 16,
     /// Three rows have no units.
-    NoUnits,
+    NoUnits = 17,
 }
 
 impl MethodFault {
@@ -26,22 +27,14 @@ impl MethodFault {
     pub fn number(self) -> u32
         ensures { result ≡ number_of self }
     {
-        match self {
-            Self::Figures => 2,
-            Self::NoTest => 13,
-            Self::NoMeter => 14,
-            Self::TooClose => 15,
-            Self::NotRead => 16,
-            Self::NoUnits => 17,
-        }
+        self as u32
     }
 }
 
 impl From<OutOfLimits> for MethodFault {
-    ghost from_gives = { λ e r. r ≡ Figures };
+    ghost from_gives = { λ _ r. r ≡ Figures };
 
-    fn from(e: OutOfLimits) -> MethodFault {
-        let _ = e;
+    fn from(_: OutOfLimits) -> MethodFault {
         MethodFault::Figures
     }
 }

@@ -1,7 +1,7 @@
 // Causes of corrections, and what a finding says.
 
 /// Why rows are corrected: the reading was absent, the meter ran under or over, stopped, or was altered.
-#[derive(Clone, Copy)]
+#[derive(Clone, Copy, Debug, PartialEq, Eq)]
 pub enum Cause {
     Absent,
     Under,
@@ -11,26 +11,32 @@ pub enum Cause {
 }
 
 /// What a method is asked for: to estimate a row, or to correct rows for a cause.
-#[derive(Clone, Copy)]
+#[derive(Clone, Copy, Debug, PartialEq, Eq)]
 pub enum Use {
     Estimates,
     Correcting(Cause),
 }
 
 /// Who found it: the consumer who reported it, or the supplier.
-#[derive(Clone, Copy)]
+#[derive(Clone, Copy, Debug, PartialEq, Eq)]
 pub enum Side {
     Consumer,
     Supplier,
 }
 
-/// What a correction rests on. The span is the rows first to last; it is ascertained where its dates are known.
+/// Rows of the sheet, from the first to the last.
+#[derive(Clone, Copy)]
+pub struct Span {
+    pub first: u64,
+    pub last: u64,
+}
+
+/// What a correction rests on. It is ascertained where its dates are known.
 #[derive(Clone, Copy)]
 pub struct Finding {
     pub cause: Cause,
     pub side: Side,
     pub notice: u64,
     pub ascertained: bool,
-    pub first: u64,
-    pub last: u64,
+    pub span: Span,
 }

@@ -13,3 +13,4 @@ pub mod previous_three;
 pub mod reckoning;
 pub mod test_meter;
 pub mod three_rows;
+pub mod uses;

@@ -2,27 +2,21 @@
 ghost use Rattle.std.specs.Prelude.{◌≡◌, Bool, ◌&&◌};
 ghost use Rattle.rules.specs.Subject.{Method as Meaning, Use as Purpose};
 ghost use Rattle.figures.specs.View.{regs, register_of};
-ghost use Rattle.method.specs.Uses.{use_of};
+ghost use Rattle.method.specs.declared.uses.Uses.{Uses as Named};
+ghost use Rattle.method.specs.Uses.{use_of, named_in};
 
-use crate::finding::Use;
-use figures::dates::Days;
-use figures::units::{Demand, Register, Registers};
-
-/// A type whose one value names a set of uses.
-pub trait UseSet: Copy {
-    ghost set: { Self → Purpose → Bool };
-
-    fn has(self, u: Use) -> bool
-        ensures { result ≡ set self (use_of u) };
-}
+use crate::finding::{Span, Use};
+use crate::uses::Uses;
+use figures::row::Recorded;
+use figures::units::{Demand, Register};
 
 /// A method gives each row a weight, and the units N × weight ÷ D are shared over the rows by it: N is the upper number,
 /// D the lower. Weights and demands rest on a row's days and recorded registers alone.
 pub trait Method {
-    type Named: UseSet;
+    ghost CAUSES: { Named };
 
     /// The uses that the method may serve, once and for all.
-    const CAUSES: Self::Named;
+    const CAUSES: Uses;
 
     ghost meaning: { Self → Meaning };
 
@@ -32,22 +26,22 @@ pub trait Method {
     fn lower(&self) -> u64
         ensures { result ≡ (meaning self.now).lower };
 
-    fn weight(&self, k: Register, days: Days, r: Registers) -> u64
-        ensures { result ≡ (meaning self.now).weight (register_of k) days.count (regs r) };
+    fn weight(&self, k: Register, row: Recorded) -> u64
+        ensures { result ≡ (meaning self.now).weight (register_of k) row.days.count (regs row.registers) };
 
-    fn demand(&self, days: Days, r: Registers) -> Demand
-        ensures { result.kva ≡ (meaning self.now).demand days.count (regs r) };
+    fn demand(&self, row: Recorded) -> Demand
+        ensures { result.figure.0 ≡ (meaning self.now).demand row.days.count (regs row.registers) };
 
-    fn fits(&self, u: Use, first: u64, last: u64) -> bool
-        ensures { result ≡ (meaning self.now).fits (use_of u) first last };
+    fn fits(&self, u: Use, span: Span) -> bool
+        ensures { result ≡ (meaning self.now).fits (use_of u) span.first span.last };
 
-    ghost tied: { (n : Self.Named) (m : Self) → Self.Named.UseSet.set n ≡ (meaning m).serves };
+    /// The uses that it names are those of its meaning.
+    ghost tied: { (m : Self) (u : Purpose) → named_in CAUSES u ≡ (meaning m).serves u };
 }
 
 /// Whether the method names the use and fits the span.
-pub fn may_serve<M: Method>(m: &M, u: Use, first: u64, last: u64) -> bool
-    ensures { result ≡ ((M.Method.meaning m.now).serves (use_of u) && (M.Method.meaning m.now).fits (use_of u) first last) }
+pub fn may_serve<M: Method>(m: &M, u: Use, span: Span) -> bool
+    ensures { result ≡ ((M.Method.meaning m.now).serves (use_of u) && (M.Method.meaning m.now).fits (use_of u) span.first span.last) }
 {
-    let named = M::CAUSES;
-    named.has(u) && m.fits(u, first, last)
+    M::CAUSES.has(u) && m.fits(u, span)
 }

@@ -1,39 +1,31 @@
 // Three rows, reckoned together.
 ghost use Rattle.std.specs.Prelude.{◌≡◌, [], ◌∷◌, map};
-ghost use Rattle.rules.specs.Subject.{is_read};
-ghost use Rattle.figures.specs.View.{sort_of, period_seen, register_of};
+ghost use Rattle.figures.specs.View.{period_seen, register_of};
 ghost use Rattle.method.specs.Meaning.{of_both};
 ghost use Rattle.method.specs.Three.{three_from};
 ghost use Rattle.method.specs.Reckoned.{ReckonedFrom};
 
 use crate::three_rows::ThreeRows;
-use figures::row::{Row, Sort};
+use figures::reported::Kva;
+use figures::row::Row;
 use figures::units::{Demand, Register};
 
-fn is_read(row: Row) -> bool
-    ensures { result ≡ is_read (sort_of row.sort) }
-{
-    match row.sort {
-        Sort::Read => true,
-        _ => false,
-    }
-}
-
 impl ThreeRows {
-    fn of(from: u64, a: Row, b: Row, c: Row) -> Option<ThreeRows>
-        ensures { ReckonedFrom from (period_seen a ∷ period_seen b ∷ period_seen c ∷ []) result }
+    fn of(from: u64, a: &Row, b: &Row, c: &Row) -> Option<ThreeRows>
+        ensures { ReckonedFrom from (period_seen a.now ∷ period_seen b.now ∷ period_seen c.now ∷ []) result }
     {
-        if !is_read(a) || !is_read(b) || !is_read(c) {
+        if !a.is_read() || !b.is_read() || !c.is_read() {
             return None;
         }
-        let demands = a.recorded.demand.kva + b.recorded.demand.kva + c.recorded.demand.kva;
+        let (p, q, r) = (a.recorded, b.recorded, c.recorded);
+        let demands = p.demand.figure.0 + q.demand.figure.0 + r.demand.figure.0;
         Some(ThreeRows {
             from,
-            day: a.recorded.day.kwh + b.recorded.day.kwh + c.recorded.day.kwh,
-            peak: a.recorded.peak.kwh + b.recorded.peak.kwh + c.recorded.peak.kwh,
+            day: p.day.figure.0 + q.day.figure.0 + r.day.figure.0,
+            peak: p.peak.figure.0 + q.peak.figure.0 + r.peak.figure.0,
             days: a.term.days().count + b.term.days().count + c.term.days().count,
             demand: Demand {
-                kva: demands.div_ceil(3),
+                figure: Kva(demands.div_ceil(3)),
             },
         })
     }
@@ -46,7 +38,7 @@ impl ThreeRows {
             return None;
         }
         match &rows[from as usize..] {
-            [a, b, c, ..] => ThreeRows::of(from, *a, *b, *c),
+            [a, b, c, ..] => ThreeRows::of(from, a, b, c),
             _ => None,
         }
     }
@@ -56,8 +48,8 @@ impl ThreeRows {
         ensures { result ≡ of_both self.day self.peak (register_of k) }
     {
         match k {
-            Register::Day => self.day as u64,
-            Register::Peak => self.peak as u64,
+            Register::Day => self.day,
+            Register::Peak => self.peak,
         }
     }
 }

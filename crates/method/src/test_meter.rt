@@ -7,5 +7,5 @@ use figures::units::Units;
 pub struct TestMeter {
     pub shown: Units,
     pub tested: Units,
-    ghost turned: { 1 ≤ shown.kwh },
+    ghost turned: { 1 ≤ shown.figure.0 },
 }

@@ -7,9 +7,9 @@ use figures::units::Demand;
 #[derive(Clone, Copy)]
 pub struct ThreeRows {
     pub from: u64,
-    pub day: u32,
-    pub peak: u32,
-    pub days: u32,
+    pub day: u64,
+    pub peak: u64,
+    pub days: u64,
     pub demand: Demand,
     ghost day_most: { day ≤ 3000000 },
     ghost peak_most: { peak ≤ 3000000 },
