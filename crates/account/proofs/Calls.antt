@@ -213,7 +213,7 @@ module _ {T : Type 0} (mean : T → Tariff) (a b : Account T) (rows : List law.R
   changed_opening : opening_of b ≡ opening_of a
   changed_opening =
       ap (λ x. opened_of x (length b.sheet.memory.now) (length b.journal.memory.now)) h.day
-      ∙ ap₂ (λ x y. opened_of a.opening.number x y) h.sheet_size h.journal.size
+      ∙ ap₂ (λ x y. opened_of a.opening.figure x y) h.sheet_size h.journal.size
 
   -- an accepted call that does just this
   pub changed_done : (c : Call) (v : ℤ) → question (opening_of a) (view (state_of a)) c ≡ 0 → v ≡ worth (mean a.tariff) (opening_of a) (state_of a) c → made a rows ls t ≡ effect (mean a.tariff) (opening_of a) (state_of a) c → Stepped mean a b c (record { number = 0; value = v }) × LawfulAfter mean a b c
@@ -244,7 +244,7 @@ pub grown_limit : {T : Type 0} (a : Account T) (q : Pages Line) (ls : List law.L
 grown_limit a q ls g = g.limit ∙ a.journal_limit ∙ ap (λ n. min n 1024) (sym g.size)
 
 -- an account with nothing in it
-pub opened_is : {T : Type 0} (mean : T → Tariff) (a : Account T) (day : ℕ) (sheet : List Row) (journal : List Line) → a.opening.number ≡ day → a.granted ≡ 0 → a.holding ≡ None → totals a.sums ≡ nothing → pages_of a.sheet ≡ fresh sheet 120 → pages_of a.journal ≡ fresh journal 1024 → Opened mean a a.tariff day sheet journal
+pub opened_is : {T : Type 0} (mean : T → Tariff) (a : Account T) (day : ℕ) (sheet : List Row) (journal : List Line) → a.opening.figure ≡ day → a.granted ≡ 0 → a.holding ≡ None → totals a.sums ≡ nothing → pages_of a.sheet ≡ fresh sheet 120 → pages_of a.journal ≡ fresh journal 1024 → Opened mean a a.tariff day sheet journal
 unfolding after
 opened_is mean a day sheet journal d g h s p q =
     let rows = ap (λ (x : Pages Row). x.memory) p in

@@ -43,14 +43,14 @@ with_nine o b hold last first m nine =
     ∷ (9, nine)
     ∷ (10, leb (b.used + 1) (journal_room o)) ∷ []
 
-pub listed : {T : Type 0} (a : Account T) (hold last place first : ℕ) (m : Method) → place ≡ a.sheet.filled → first ≡ next_day a.opening.number (periods_of (state_of a)) →
+pub listed : {T : Type 0} (a : Account T) (hold last place first : ℕ) (m : Method) → place ≡ a.sheet.filled → first ≡ next_day a.opening.figure (periods_of (state_of a)) →
     question (opening_of a) (view (state_of a)) (estimate hold last m) ≡ first_no (estimate_list (opening_of a) (view (state_of a)) hold last place first m)
 unfolding asked
 listed a hold last place first m p f =
     let o = opening_of a in
     let b = view (state_of a) in
     let ps = periods_of (state_of a) in
-    let day = next_day a.opening.number ps in
+    let day = next_day a.opening.figure ps in
     let late = leb 6 (run ps) in
     sym (ap₂ (λ x y. first_no (estimate_list o b hold last x y m)) (p ∙ sym (periods_length a)) f
     ∙ ap (λ n. first_no (with_nine o b hold last day m n)) (sym (late_fits late day last m) ∙ ap (λ q. late || shares_fit q) (sym (unread_is day last m ps))))

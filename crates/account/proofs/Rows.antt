@@ -19,7 +19,7 @@ next_push d [] p = refl
 next_push d (q ∷ ps) p = next_push (q.last + 1) ps p
 
 -- the day after the last row's
-pub next_is : (d n : ℕ) (rows : List Row) (x : Row) → 1 ≤ n → n ≤ length rows → x ≡ get_or rows (n - 1) x → x.term.last.number + 1 ≡ next_day d (map period_of (map seen (take n rows)))
+pub next_is : (d n : ℕ) (rows : List Row) (x : Row) → 1 ≤ n → n ≤ length rows → x ≡ get_or rows (n - 1) x → x.term.last.figure + 1 ≡ next_day d (map period_of (map seen (take n rows)))
 next_is d n rows x one h read =
     let e : n ≡ (n - 1) + 1 = omega arith in
     let t : take n rows ≡ take (n - 1) rows ++ (x ∷ []) = ap (λ k. take k rows) e ∙ take_more rows (n - 1) x (omega arith) ∙ ap (λ y. take (n - 1) rows ++ (y ∷ [])) (sym read) in

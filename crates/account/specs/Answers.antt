@@ -1,7 +1,7 @@
 -- What a call answers: each refusal by its number, and an accepted call's value. Assumes nothing.
 use Rattle.std.specs.Prelude.{◌≡◌, ℕ, Bool, true, false, ℤ, pos, Ok, Err, Result}
 use Rattle.rules.specs.Machine.{Answer}
-use Rattle.figures.specs.declared.money.Charge.{Charge}
+use Rattle.figures.specs.View.{Charge}
 use Rattle.figures.specs.declared.money.Money.{Money}
 use Rattle.figures.specs.declared.money.Payment.{Payment}
 use Rattle.account.specs.declared.answer.Refusal.{Refusal}
@@ -33,7 +33,7 @@ abbrev pub handed_answer : Result Unit Refusal → Answer
 handed_answer = answered (λ u. pos 0)
 
 abbrev pub billed_answer : Result Charge Refusal → Answer
-billed_answer = answered (λ c. pos c.cents)
+billed_answer = answered (λ c. pos c.figure.0)
 
 abbrev pub corrected_answer : Result Money Refusal → Answer
 corrected_answer = answered (λ u. u.0)

@@ -31,7 +31,7 @@ state_of a = record {
 
 -- what the account was opened with
 abbrev pub opening_of : {T : Type 0} → Account T → Opening
-opening_of a = record { day = a.opening.number; sheet = length a.sheet.memory.now; journal = length a.journal.memory.now }
+opening_of a = record { day = a.opening.figure; sheet = length a.sheet.memory.now; journal = length a.journal.memory.now }
 
 -- the answer and the whole state after a call are those of the step
 pub record Stepped {T : Type 0} (mean : T → Tariff) (a b : Account T) (c : Call) (r : Answer) : Type 0 where
@@ -57,7 +57,7 @@ pub record Roomy {T : Type 0} (a : Account T) : Type 0 where
 pub record Changed {T : Type 0} (mean : T → Tariff) (a b : Account T) (rs : List law.Row) (ls : List law.Line) (t : Totals) : Type 0 where
   pub granted : b.granted ≡ a.granted
   pub holding : b.holding ≡ a.holding
-  pub day : b.opening.number ≡ a.opening.number
+  pub day : b.opening.figure ≡ a.opening.figure
   pub tariff : mean b.tariff ≡ mean a.tariff
   pub rows : rows_of (pages_of b.sheet) ≡ rs
   pub sheet_size : length b.sheet.memory.now ≡ length a.sheet.memory.now

@@ -29,15 +29,15 @@ impl<'a, T> Account<'a, T> {
     }
 
     /// The day on which the next row begins.
-    pub(crate) fn next_day(&self) -> u32
-        ensures value { result ≡ next_day self.now.opening.number (periods_of (state_of self.now)) }
+    pub(crate) fn next_day(&self) -> u64
+        ensures value { result ≡ next_day self.now.opening.figure (periods_of (state_of self.now)) }
     {
         if self.sheet.filled == 0 {
-            return self.opening.number;
+            return self.opening.figure;
         }
         let rows = &*self.sheet.memory;
         let row = rows[self.sheet.filled - 1];
-        row.term.last.number + 1
+        row.term.last.figure + 1
     }
 
     /// Whether the sheet has a place.
@@ -53,7 +53,7 @@ impl<'a, T> Account<'a, T> {
 
     /// The days of the next row, where it would end on `last`.
     pub(crate) fn next_term(&self, last: Day) -> Result<Term, Refusal>
-        ensures { Says (is_term (next_day self.now.opening.number (periods_of (state_of self.now))) last.number) (λ t. (t.first.number ≡ next_day self.now.opening.number (periods_of (state_of self.now))) × (t.last.number ≡ last.number)) Period result }
+        ensures { Says (is_term (next_day self.now.opening.figure (periods_of (state_of self.now))) last.figure) (λ t. (t.first.figure ≡ next_day self.now.opening.figure (periods_of (state_of self.now))) × (t.last.figure ≡ last.figure)) Period result }
     {
         match Term::new(self.next_day(), last) {
             Some(term) => Ok(term),

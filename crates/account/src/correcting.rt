@@ -21,14 +21,14 @@ use tariff::tariff::Tariff;
 
 /// Over how many bills an undercharge is spread.
 fn bills(f: Finding) -> u64
-    requires { (f.first ≤ f.last) × (f.last < 1000) }
+    requires { (f.span.first ≤ f.span.last) × (f.span.last < 1000) }
     ensures value { result ≡ bills-over (finding_of f) }
     ensures least { 1 ≤ result }
 {
     match f.cause {
         Cause::Absent => 6,
         Cause::Altered => 1,
-        _ => f.last + 1 - f.first,
+        _ => f.span.last + 1 - f.span.first,
     }
 }
 
@@ -37,7 +37,7 @@ fn ask_rows<M: Method>(m: &M, f: Finding, rows: &[Row]) -> Result<(), Refusal>
     requires { length rows.now ≤ 120 }
     ensures { Asked (first_no (rows_asked (finding_of f) (M.Method.meaning m.now) (periods rows.now))) (λ _. Unit {0}) result }
 {
-    if f.first > f.last || f.last >= rows.len() as u64 {
+    if f.span.first > f.span.last || f.span.last >= rows.len() as u64 {
         return Err(Refusal::NotBilled);
     }
     if !spans::sorts_right(f, rows) {
@@ -46,7 +46,7 @@ fn ask_rows<M: Method>(m: &M, f: Finding, rows: &[Row]) -> Result<(), Refusal>
     if !spans::rule_kept(f, rows) {
         return Err(Refusal::WrongSpan);
     }
-    if !may_serve(m, Use::Correcting(f.cause), f.first, f.last) {
+    if !may_serve(m, Use::Correcting(f.cause), f.span) {
         return Err(Refusal::NoFit);
     }
     if !asking::shares_fit(m, f, rows) {

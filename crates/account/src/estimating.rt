@@ -14,7 +14,7 @@ use crate::answer::Refusal;
 use figures::dates::{Day, Term};
 use figures::money::Charge;
 use figures::row::Sort;
-use method::finding::Use;
+use method::finding::{Span, Use};
 use method::method::{Method, may_serve};
 use sheet::estimating;
 use tariff::tariff::Tariff;
@@ -29,12 +29,19 @@ struct Estimating {
 
 /// The questions about the method: none where the row is late in its run.
 fn ask_share<M: Method>(m: &M, late: bool, place: u64, term: Term) -> Result<(), Refusal>
-    ensures { Asked (first_no (share_asked late (M.Method.meaning m.now) place term.first.number term.last.number)) (λ _. (late ≡ false → shares_fit (unread_by late term.first.number term.last.number (M.Method.meaning m.now)) ≡ true)) result }
+    ensures { Asked (first_no (share_asked late (M.Method.meaning m.now) place term.first.figure term.last.figure)) (λ _. (late ≡ false → shares_fit (unread_by late term.first.figure term.last.figure (M.Method.meaning m.now)) ≡ true)) result }
 {
     if late {
         return Ok(());
     }
-    if !may_serve(m, Use::Estimates, place, place) {
+    if !may_serve(
+        m,
+        Use::Estimates,
+        Span {
+            first: place,
+            last: place,
+        },
+    ) {
         return Err(Refusal::NoFit);
     }
     if !estimating::share_fits(m, estimating::blank(term, Sort::Estimated)) {
@@ -53,7 +60,7 @@ impl<'a, T: Tariff> Account<'a, T> {
 
     /// The questions of an estimate.
     fn ask_estimate<M: Method>(&self, hold: u64, last: u64, m: &M) -> Result<Estimating, Refusal>
-        ensures { Asked (question (opening_of self.now) (view (state_of self.now)) (estimate hold last (M.Method.meaning m.now))) (λ e. (e.hold ≡ hold) × (e.term.first.number ≡ next_day self.now.opening.number (periods_of (state_of self.now))) × (e.term.last.number ≡ last) × (e.late ≡ nat_le 6 (run (periods_of (state_of self.now)))) × (e.late ≡ false → shares_fit (unread_by e.late e.term.first.number e.term.last.number (M.Method.meaning m.now)) ≡ true) × Roomy self.now) result }
+        ensures { Asked (question (opening_of self.now) (view (state_of self.now)) (estimate hold last (M.Method.meaning m.now))) (λ e. (e.hold ≡ hold) × (e.term.first.figure ≡ next_day self.now.opening.figure (periods_of (state_of self.now))) × (e.term.last.figure ≡ last) × (e.late ≡ nat_le 6 (run (periods_of (state_of self.now)))) × (e.late ≡ false → shares_fit (unread_by e.late e.term.first.figure e.term.last.figure (M.Method.meaning m.now)) ≡ true) × Roomy self.now) result }
     {
         let hold = self.held(hold)?;
         let last = Day::new(last)?;

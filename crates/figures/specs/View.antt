@@ -1,6 +1,7 @@
 -- The figures of the code as the rules have them, their limits forgotten. Assumes nothing.
 use Rattle.rules.specs.Subject as rules
 use Rattle.rules.specs.Law as law
+use Rattle.figures.specs.declared.reported.Cents.{Cents}
 use Rattle.figures.specs.declared.reported.Reading.{Reading}
 use Rattle.figures.specs.declared.units.Register.{Register}
 use Rattle.figures.specs.declared.units.Register.TheVariants.{Day, Peak}
@@ -9,6 +10,7 @@ use Rattle.figures.specs.declared.row.Sort.{Sort}
 use Rattle.figures.specs.declared.row.Sort.TheVariants.{Read, Estimated, NoEnergy}
 use Rattle.figures.specs.declared.row.Row.{Row}
 use Rattle.figures.specs.declared.line.Line.{Line}
+use Rattle.figures.specs.declared.up_to.UpTo.{UpTo}
 use Rattle.figures.specs.declared.line.Letter.{Letter}
 use Rattle.figures.specs.declared.line.Letter.TheVariants.{Bill, Correction, Payment}
 
@@ -46,3 +48,7 @@ letter_of Payment = law.P
 
 abbrev pub line_seen : Line → law.Line
 line_seen l = record { hold = l.hold; letter = letter_of l.letter; row = l.row; cents = l.cents.0 }
+
+-- what one row is charged
+abbrev pub Charge : Type 0
+Charge = UpTo Cents 210000000000 (record { size = λ c. c.0 })

@@ -10,9 +10,7 @@ ghost use Rattle.sheet.specs.Rows.{periods, unread_by};
 use crate::laying::Pair;
 use crate::{asking, laying, relaying};
 use figures::dates::Term;
-use figures::money::Charge;
-use figures::row::{Row, Sort};
-use figures::units::{Demand, Registers, Units};
+use figures::row::{BLANK, Row, Sort};
 use method::method::Method;
 use tariff::tariff::{Tariff, charged};
 
@@ -41,19 +39,12 @@ pub fn run(rows: &[Row]) -> u64
 
 /// A row of zeros.
 pub fn blank(term: Term, sort: Sort) -> Row
-    ensures { seen result ≡ record { period = blank_of term.first.number term.last.number (sort_of sort); cents = 0 } }
+    ensures { seen result ≡ record { period = blank_of term.first.figure term.last.figure (sort_of sort); cents = 0 } }
 {
-    let zeros = Registers {
-        day: Units { kwh: 0 },
-        peak: Units { kwh: 0 },
-        demand: Demand { kva: 0 },
-    };
     Row {
         term,
         sort,
-        recorded: zeros,
-        standing: zeros,
-        charge: Charge { cents: 0 },
+        ..BLANK
     }
 }
 
@@ -67,20 +58,14 @@ pub fn share_fits<M: Method>(m: &M, row: Row) -> bool
 
 /// The unmetered row for a period, with its charge: the method's share for it alone, or zeros where it is late in its run.
 pub fn unread<T: Tariff, M: Method>(tariff: &mut T, m: &M, late: bool, term: Term) -> Row
-    requires { late ≡ false → shares_fit (unread_by late term.first.number term.last.number (M.Method.meaning m.now)) ≡ true }
-    ensures row { seen result ≡ row_of (T.Tariff.meaning tariff.old) (unread_by late term.first.number term.last.number (M.Method.meaning m.now)) }
+    requires { late ≡ false → shares_fit (unread_by late term.first.figure term.last.figure (M.Method.meaning m.now)) ≡ true }
+    ensures row { seen result ≡ row_of (T.Tariff.meaning tariff.old) (unread_by late term.first.figure term.last.figure (M.Method.meaning m.now)) }
     ensures same { T.Tariff.meaning tariff.new ≡ T.Tariff.meaning tariff.old }
 {
     if late {
         let row = blank(term, Sort::NoEnergy);
         let charge = charged(tariff, term.last, row.standing);
-        return Row {
-            term,
-            sort: Sort::NoEnergy,
-            recorded: row.recorded,
-            standing: row.standing,
-            charge,
-        };
+        return Row { charge, ..row };
     }
     let none = Pair { day: 0, peak: 0 };
     relaying::restate(tariff, m, none, blank(term, Sort::Estimated))

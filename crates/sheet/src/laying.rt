@@ -7,6 +7,7 @@ ghost use Rattle.figures.specs.View.{regs, sort_of, period_seen};
 ghost use Rattle.method.specs.Uses.{finding_of, cause_of};
 ghost use Rattle.sheet.specs.Weighing.{Weighed, Light};
 
+use figures::reported::Kwh;
 use figures::row::{Row, Sort};
 use figures::units::{Register, Registers, Units};
 use method::finding::{Cause, Finding};
@@ -23,7 +24,7 @@ pub(crate) struct Pair {
 pub(crate) fn rewrites(f: Finding, i: u64, row: Row) -> bool
     ensures { result ≡ rewrites-row (finding_of f) i (period_seen row) }
 {
-    f.first <= i && i <= f.last && rewrites_sort(f.cause, row.sort)
+    f.span.first <= i && i <= f.span.last && rewrites_sort(f.cause, row.sort)
 }
 
 pub(crate) fn rewrites_sort(c: Cause, s: Sort) -> bool
@@ -60,10 +61,10 @@ pub(crate) fn weigh<M: Method>(m: &M, row: Row) -> Pair
     ensures peak { result.peak ≡ peak_weight (M.Method.meaning m.now) (period_seen row) }
     ensures light { Light (M.Method.meaning m.now) result.day result.peak }
 {
-    let days = row.term.days();
+    let seen = row.metered();
     Pair {
-        day: m.weight(Register::Day, days, row.recorded),
-        peak: m.weight(Register::Peak, days, row.recorded),
+        day: m.weight(Register::Day, seen),
+        peak: m.weight(Register::Peak, seen),
     }
 }
 
@@ -85,10 +86,12 @@ pub(crate) fn lay<M: Method>(m: &M, s: Pair, row: Row) -> Registers
     requires { (s.day ≤ 1000000) × (s.peak ≤ 1000000) }
     ensures { regs result ≡ record { day = s.day; peak = s.peak; demand = (M.Method.meaning m.now).demand (days (period_seen row)) (regs row.recorded) } }
 {
-    let demand = m.demand(row.term.days(), row.recorded);
+    let demand = m.demand(row.metered());
     Registers {
-        day: Units { kwh: s.day as u32 },
-        peak: Units { kwh: s.peak as u32 },
+        day: Units { figure: Kwh(s.day) },
+        peak: Units {
+            figure: Kwh(s.peak),
+        },
         demand,
     }
 }

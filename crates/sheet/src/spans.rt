@@ -21,28 +21,19 @@ fn of_sort(c: Cause, s: Sort) -> bool
     }
 }
 
-fn is_read(row: Row) -> bool
-    ensures { result ≡ is_read (period_seen row).sort }
-{
-    match row.sort {
-        Sort::Read => true,
-        _ => false,
-    }
-}
-
 /// Whether the row at place `i` is outside the span, or of the cause's sort.
 fn sort_fits(f: Finding, i: u64, row: Row) -> bool
     ensures { result ≡ sort_fits (finding_of f) i (period_seen row) }
 {
-    !(f.first <= i && i <= f.last) || of_sort(f.cause, row.sort)
+    !(f.span.first <= i && i <= f.span.last) || of_sort(f.cause, row.sort)
 }
 
 /// Whether the row at place `i` does not adjoin the span, or is read.
 fn not_left_out(f: Finding, i: u64, row: Row) -> bool
-    requires { (f.last < 1000) × (i < 1000) }
+    requires { (f.span.last < 1000) × (i < 1000) }
     ensures { result ≡ not_left_out (finding_of f) i (period_seen row) }
 {
-    !(i + 1 == f.first || i == f.last + 1) || is_read(row)
+    !(i + 1 == f.span.first || i == f.span.last + 1) || row.is_read()
 }
 
 fn all_of_sort(f: Finding, rows: &[Row]) -> bool
@@ -56,7 +47,7 @@ fn all_of_sort(f: Finding, rows: &[Row]) -> bool
 }
 
 fn none_left_out(f: Finding, rows: &[Row]) -> bool
-    requires { (f.last < 1000) × (length rows.now ≤ 120) }
+    requires { (f.span.last < 1000) × (length rows.now ≤ 120) }
     ensures { result ≡ every (not_left_out (finding_of f)) 0 (periods rows.now) }
 {
     let mut ok = true;
@@ -68,7 +59,7 @@ fn none_left_out(f: Finding, rows: &[Row]) -> bool
 
 /// Whether the rows are of the cause's sort, and for an absent reading no unmetered row that adjoins is left out.
 pub fn sorts_right(f: Finding, rows: &[Row]) -> bool
-    requires { (f.last < 1000) × (length rows.now ≤ 120) }
+    requires { (f.span.last < 1000) × (length rows.now ≤ 120) }
     ensures { result ≡ sorts-are-right (finding_of f) (periods rows.now) }
 {
     let free = match f.cause {
@@ -98,26 +89,27 @@ fn read_at(rows: &[Row], i: u64) -> bool
     if i >= rows.len() {
         return false;
     }
-    is_read(rows[i])
+    rows[i].is_read()
 }
 
 /// Whether the span keeps the rest of its cause's rule.
 pub fn rule_kept(f: Finding, rows: &[Row]) -> bool
-    requires { (f.first ≤ f.last) × (f.last < 1000) }
+    requires { (f.span.first ≤ f.span.last) × (f.span.last < 1000) }
     ensures { result ≡ rule-kept (cause_of f.cause) (side_of f.side) (finding_of f) (periods rows.now) }
 {
-    let size = f.last + 1 - f.first;
+    let size = f.span.last + 1 - f.span.first;
     match (f.cause, f.side) {
-        (Cause::Absent, _) => read_at(rows, f.last + 1),
-        (Cause::Under, Side::Consumer) => size == 1 && day_in(rows, f.first, f.notice),
-        (Cause::Under, Side::Supplier) => size <= 3 && day_in(rows, f.first, f.notice),
+        (Cause::Absent, _) => read_at(rows, f.span.last + 1),
+        (Cause::Under, Side::Consumer) => size == 1 && day_in(rows, f.span.first, f.notice),
+        (Cause::Under, Side::Supplier) => size <= 3 && day_in(rows, f.span.first, f.notice),
         (Cause::Over, _) => f.ascertained && size <= 12,
-        (Cause::Stopped, _) => size <= 12 && (f.ascertained || day_in(rows, f.first, f.notice)),
+        (Cause::Stopped, _) => size <= 12
+            && (f.ascertained || day_in(rows, f.span.first, f.notice)),
         (Cause::Altered, _) => {
             if f.ascertained {
                 size <= 12
             } else {
-                size == 3 && day_in(rows, f.last + 1, f.notice)
+                size == 3 && day_in(rows, f.span.last + 1, f.notice)
             }
         }
     }

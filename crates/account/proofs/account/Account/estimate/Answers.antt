@@ -13,7 +13,7 @@ use Rattle.account.proofs.account.Account.estimate.Goals as goal
 
 pub returns-in_err-hold : goal.returns-in_err-hold
 returns-in_err-hold g c =
-    let r = refused_by g.T.Tariff.meaning c.args.self.now (estimate c.args.hold c.args.last (g.M.Method.meaning c.args.m.now)) (λ p. pos p.cents) c.from_residual.result c.in_err-hold.field-0.0 c.from_residual.ensures.1 c.in_err-hold.ensures in
+    let r = refused_by g.T.Tariff.meaning c.args.self.now (estimate c.args.hold c.args.last (g.M.Method.meaning c.args.m.now)) (λ p. pos p.figure.0) c.from_residual.result c.in_err-hold.field-0.0 c.from_residual.ensures.1 c.in_err-hold.ensures in
     record { after = r.0; law = r.1 }
 
 pub returns : goal.returns
@@ -27,11 +27,11 @@ returns g c =
     let b = c.in_ok-hold.field-0 in
     let last = c.args.last in
     let ps = periods_of (state_of a) in
-    let first = next_day a.opening.number ps in
+    let first = next_day a.opening.figure ps in
     let e = c.enter.ensures in
     let row : seen c.unread-row.result ≡ law.row_of t (unread first last m ps) =
     c.unread-row.ensures.row
-    ∙ ap (λ x. law.row_of t (unread_by x b.term.first.number b.term.last.number m)) said.1.3
+    ∙ ap (λ x. law.row_of t (unread_by x b.term.first.figure b.term.last.figure m)) said.1.3
     ∙ ap₂ (λ x y. law.row_of t (unread_by (leb 6 (run ps)) x y m)) said.1.1 said.1.2
     ∙ ap (law.row_of t) (sym (unread_is first last m ps)) in
     let r = changed_done mean a c.enter.new.self _ _ _ (record {
@@ -44,5 +44,5 @@ returns g c =
       sheet_past = e.sheet_past;
       journal = e.journal;
       sums = e.sums;
-    }) (estimate c.args.hold last m) (pos c.unread-row.result.charge.cents) said.0 (ap (λ (x : law.Row). pos x.cents) row) (entered_is t a b.hold c.args.hold _ (unread first last m ps) said.1.0 row) in
+    }) (estimate c.args.hold last m) (pos c.unread-row.result.charge.figure.0) said.0 (ap (λ (x : law.Row). pos x.cents) row) (entered_is t a b.hold c.args.hold _ (unread first last m ps) said.1.0 row) in
     record { after = r.0; law = r.1 }

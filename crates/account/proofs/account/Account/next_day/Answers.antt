@@ -7,4 +7,4 @@ returns g c =
     let a = c.args.self.now in
     let s = a.sheet_sound in
     let l = a.sheet_limit in
-    record { value = next_is a.opening.number a.sheet.filled a.sheet.memory.now c.index-rows-self.result (omega arith) (omega arith) c.index-rows-self.is }
+    record { value = next_is a.opening.figure a.sheet.filled a.sheet.memory.now c.index-rows-self.result (omega arith) (omega arith) c.index-rows-self.is }
