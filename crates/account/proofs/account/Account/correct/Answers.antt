@@ -18,10 +18,9 @@ pub relay_sheet-u-requires : goal.relay_sheet-u-requires
 relay_sheet-u-requires g c =
     let a = c.args.self.now in
     let y = correct_yes a c.args.hold (finding_of c.args.f) (g.M.Method.meaning c.args.m.now) c.in_ok-hold.ensures.0 in
-    let s = a.sheet_sound in
+    let s = a.sheet.within_limit in
     let l = a.sheet_limit in
-    let k = a.journal_limit in
-    record { few = (omega arith, (s, omega arith)); span = (y.ordered, y.billed); fits = y.fits; sound = (a.journal_sound, omega arith); room = y.room }
+    record { few = omega arith; span = (y.ordered, y.billed); fits = y.fits; room = y.room }
 
 pub overflow_cast-lines : goal.overflow_cast-lines
 overflow_cast-lines g c =
@@ -36,7 +35,7 @@ pub bills-requires : goal.bills-requires
 bills-requires g c =
     let a = c.args.self.now in
     let y = correct_yes a c.args.hold (finding_of c.args.f) (g.M.Method.meaning c.args.m.now) c.in_ok-hold.ensures.0 in
-    let s = a.sheet_sound in
+    let s = a.sheet.within_limit in
     let l = a.sheet_limit in
     (y.ordered, omega (arith, y.billed))
 
@@ -65,11 +64,8 @@ invariant_of-self g c =
     let d = added a _ (g.T.Tariff.meaning a.tariff) c.in_ok-hold.hold f m y w in
     let lines = ap (λ (t : Totals). t.lines) c.correct.ensures in
     let n = a.counted in
-    let s = a.sheet_sound in
     record {
-      sheet_sound = omega (arith, r.filled, r.limit);
       sheet_limit = r.limit ∙ a.sheet_limit ∙ ap (λ k. min k 120) (sym r.size);
-      journal_sound = omega (arith, d.within, w.limit);
       journal_limit = grown_limit a _ _ w;
       counted = omega (arith, lines, d.filled);
     }
