@@ -51,7 +51,7 @@ correct-requires g c =
     let u = c.relay_sheet-u.ensures.small in
     let low = u.low in
     let high = u.high in
-    record { few = omega (arith, d.within, d.most); within = (omega (arith, ints), omega (arith, ints)); least = c.bills.ensures.least }
+    record { few = omega (arith, d.within, d.most); within = (omega (arith, ints), omega (arith, ints)) }
 
 pub invariant_of-self : goal.invariant_of-self
 invariant_of-self g c =
@@ -88,5 +88,5 @@ returns g c =
       sheet_past = e.rows.past;
       journal = e.lines;
       sums = c.correct.ensures;
-    }) (correct c.args.hold f m) c.relay_sheet-u.result.0 c.in_ok-hold.ensures.0 (e.sum ∙ ap (λ z. cents_of (posts t f m z 0 0 0 (state_of a).rows)) c.in_ok-hold.ensures.1) (corrected_is t (opening_of a) a c.in_ok-hold.hold c.args.hold f m c.relay_sheet-u.result.0 c.bills.result (c.relay_sheet-u.new.journal.filled - a.journal.filled) c.in_ok-hold.ensures.1 e.sum c.bills.ensures.value) in
+    }) (correct c.args.hold f m) c.relay_sheet-u.result.0 c.in_ok-hold.ensures.0 (e.sum ∙ ap (λ z. cents_of (posts t f m z 0 0 0 (state_of a).rows)) c.in_ok-hold.ensures.1) (corrected_is t (opening_of a) a c.in_ok-hold.hold c.args.hold f m c.relay_sheet-u.result.0 c.bills.result.count (c.relay_sheet-u.new.journal.filled - a.journal.filled) c.in_ok-hold.ensures.1 e.sum c.bills.ensures) in
     record { after = r.0; law = r.1 }
