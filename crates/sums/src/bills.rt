@@ -10,7 +10,7 @@ pub struct Bills {
     ghost least: { 1 ≤ count },
 }
 
-/// An undercharge that is spread over bills.
+/// An undercharge that is spread over bills: at most 10^12 cents for each of 1,024 lines.
 #[derive(Clone, Copy)]
 pub struct Spreading {
     pub cents: Cents,
