@@ -8,7 +8,7 @@ use Rattle.std.proofs.lemmas.Result.{err_from_is_err_and}
 use Rattle.rules.specs.Law as law
 use Rattle.rules.specs.Machine.{State, Answer, opened, view, step, effect, worth, after, shown, periods_of}
 use Rattle.rules.proofs.Stands.{account_law}
-use Rattle.book.specs.Pages.{Pages, pages_of, Sound, written, appended, fresh}
+use Rattle.book.specs.Pages.{Pages, pages_of, written, appended, fresh}
 use Rattle.book.proofs.Room.{appended_room}
 use Rattle.figures.specs.View.{seen, line_seen}
 use Rattle.figures.specs.declared.row.Row.{Row}
@@ -29,14 +29,14 @@ pub taken_length : {X Y : Type 0} (f : X → Y) (n : ℕ) (xs : List X) → n �
 taken_length f n xs h = length-map (take n xs) f ∙ length-take-le n xs h
 
 pub lines_length : {T : Type 0} (a : Account T) → length (lines_of (pages_of a.journal)) ≡ a.journal.filled
-lines_length a = let s = a.journal_sound in let l = a.journal_limit in taken_length line_seen a.journal.filled a.journal.memory.now (omega arith)
+lines_length a = let b = a.journal in taken_length line_seen b.filled b.memory.now (omega (arith, b.within_limit, b.within_memory))
 
 pub rows_length : {T : Type 0} (a : Account T) → length (rows_of (pages_of a.sheet)) ≡ a.sheet.filled
-rows_length a = let s = a.sheet_sound in let l = a.sheet_limit in taken_length seen a.sheet.filled a.sheet.memory.now (omega arith)
+rows_length a = let b = a.sheet in taken_length seen b.filled b.memory.now (omega (arith, b.within_limit, b.within_memory))
 
 -- a sheet has at most 120 rows
 pub rows_few : {T : Type 0} (a : Account T) (rows : List Row) → map seen rows ≡ (state_of a).rows → length rows ≤ 120
-rows_few a rows e = let s = a.sheet_sound in let l = a.sheet_limit in omega (arith, sym (length-map rows seen) ∙ ap length e ∙ rows_length a)
+rows_few a rows e = let s = a.sheet.within_limit in let l = a.sheet_limit in omega (arith, sym (length-map rows seen) ∙ ap length e ∙ rows_length a)
 
 pub periods_length : {T : Type 0} (a : Account T) → length (periods_of (state_of a)) ≡ a.sheet.filled
 periods_length a = length-map (rows_of (pages_of a.sheet)) _ ∙ rows_length a
@@ -173,12 +173,6 @@ refused_by mean a c worth r e b q =
     (t, lawful mean a a c _ t)
 
 -- what the questions ask of the memory is what the books say
-pub sheet_pages_sound : {T : Type 0} (a : Account T) → Sound (pages_of a.sheet)
-sheet_pages_sound a = let s = a.sheet_sound in let l = a.sheet_limit in (s, omega arith)
-
-pub journal_pages_sound : {T : Type 0} (a : Account T) → Sound (pages_of a.journal)
-journal_pages_sound a = let s = a.journal_sound in let l = a.journal_limit in (s, omega arith)
-
 pub room_said : {T : Type 0} (a : Account T) (n : ℕ) → leb (length (state_of a).lines + n) (journal_room (opening_of a)) ≡ leb (a.journal.filled + n) a.journal.limit
 room_said a n = ap₂ (λ x y. leb (x + n) y) (lines_length a) (sym a.journal_limit)
 
@@ -231,12 +225,12 @@ module _ {T : Type 0} (mean : T → Tariff) (a b : Account T) (rows : List law.R
 
 -- a line appended where there is room is written
 pub appended_by : {T : Type 0} (a : Account T) (l : Line) (q : Pages Line) → a.journal.filled + 1 ≤ a.journal.limit → q ≡ appended (pages_of a.journal) l → q ≡ written (pages_of a.journal) l
-appended_by a l q h e = e ∙ appended_room (pages_of a.journal) l (journal_pages_sound a) (omega arith)
+appended_by a l q h e = e ∙ appended_room a.journal l (omega arith)
 
 -- a line more, and what the account owes of its journal
 pub grown_by : {T : Type 0} (a : Account T) (l : Line) (x : law.Line) (q : Pages Line) → a.journal.filled + 1 ≤ a.journal.limit → line_seen l ≡ x → q ≡ written (pages_of a.journal) l → Grown (pages_of a.journal) q (x ∷ [])
 grown_by a l x q h k e =
-    let m = a.journal_limit in
+    let m = a.journal.within_memory in
     let p = pages_of a.journal in
     subst (λ (z : law.Line). Grown p q (z ∷ [])) k (subst (λ (z : Pages Line). Grown p z (line_seen l ∷ [])) (sym e) (grown_more p p [] l (omega (arith, h)) (grown_none p)))
 

@@ -1,5 +1,5 @@
 // The account: its tariff, its holds, its sums, its sheet and its journal.
-ghost use Rattle.std.specs.Prelude.{◌≡◌, ◌≤◌, min, length};
+ghost use Rattle.std.specs.Prelude.{◌≡◌, min, length};
 
 use book::kept::Book;
 use figures::dates::Day;
@@ -24,9 +24,7 @@ pub struct Account<'a, T> {
     pub(crate) sums: Sums,
     pub(crate) sheet: Book<'a, Row>,
     pub(crate) journal: Book<'a, Line>,
-    ghost sheet_sound: { sheet.filled ≤ sheet.limit },
     ghost sheet_limit: { sheet.limit ≡ min (length sheet.memory.now) 120 },
-    ghost journal_sound: { journal.filled ≤ journal.limit },
     ghost journal_limit: { journal.limit ≡ min (length journal.memory.now) 1024 },
     ghost counted: { sums.lines ≡ journal.filled },
 }

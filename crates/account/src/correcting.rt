@@ -17,19 +17,20 @@ use figures::row::Row;
 use method::finding::{Cause, Finding, Use};
 use method::method::{Method, may_serve};
 use sheet::{asking, relaying, spans};
+use sums::bills::Bills;
 use tariff::tariff::Tariff;
 
 /// Over how many bills an undercharge is spread.
-fn bills(f: Finding) -> u64
+fn bills(f: Finding) -> Bills
     requires { (f.span.first ≤ f.span.last) × (f.span.last < 1000) }
-    ensures value { result ≡ bills-over (finding_of f) }
-    ensures least { 1 ≤ result }
+    ensures { result.count ≡ bills-over (finding_of f) }
 {
-    match f.cause {
+    let count = match f.cause {
         Cause::Absent => 6,
         Cause::Altered => 1,
         _ => f.span.last + 1 - f.span.first,
-    }
+    };
+    Bills { count }
 }
 
 /// The questions about the rows and the method.

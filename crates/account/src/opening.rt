@@ -67,15 +67,13 @@ impl<'a, T> Account<'a, T> {
     pub fn rows(&self) -> &[Row]
         ensures { map seen result.now ≡ (state_of self.now).rows }
     {
-        let memory = &*self.sheet.memory;
-        &memory[0..self.sheet.filled]
+        self.sheet.records()
     }
 
     /// The journal's lines.
     pub fn lines(&self) -> &[Line]
         ensures { map line_seen result.now ≡ (state_of self.now).lines }
     {
-        let memory = &*self.journal.memory;
-        &memory[0..self.journal.filled]
+        self.journal.records()
     }
 }

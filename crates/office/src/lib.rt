@@ -3,7 +3,6 @@
 
 pub mod entries;
 pub mod fault;
-mod memory;
 pub mod page;
 pub mod serving;
 pub mod statement;

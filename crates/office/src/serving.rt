@@ -30,7 +30,7 @@ fn call<T: Tariff>(account: &mut Account<T>, event: Event) -> Result<i64, Refusa
             reading,
         } => {
             let charge = account.bill(hold, last, reading)?;
-            Ok(charge.cents as i64)
+            Ok(charge.figure.0 as i64)
         }
         Event::Pay { hold, cents } => {
             let payment = account.pay(hold, cents)?;

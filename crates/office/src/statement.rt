@@ -8,11 +8,12 @@ ghost use Rattle.tariff.specs.Meant.{plain_of, by_demand_of};
 ghost use Rattle.account.specs.State.{state_of, opening_of};
 ghost use Rattle.office.specs.Office.{opened_on, text_asked, asked, Stated, LawfulPage};
 
-use crate::memory::{BLANK, EMPTY};
 use crate::page::clear;
 use crate::writing::write;
 use account::account::Account;
+use figures::line::EMPTY;
 use figures::reported::{Kva, OutOfLimits};
+use figures::row::BLANK;
 use tariff::by_demand::ByDemand;
 use tariff::changeover::Changeover;
 use tariff::hotel::{h1, h2, h2_time_of_day};
@@ -79,7 +80,7 @@ fn statement_under<T: Tariff + Drop>(
 
 /// H-1 at 10 kVA, and from day 365 on H-2.
 fn changeover() -> Result<Changeover<Plain, ByDemand>, OutOfLimits>
-    ensures { elim result [ Ok t ↦ changed t.day.number (plain_of t.first) (by_demand_of t.second) ≡ numbered 4 | Err _ ↦ ⊥ ] }
+    ensures { elim result [ Ok t ↦ changed t.day.figure (plain_of t.first) (by_demand_of t.second) ≡ numbered 4 | Err _ ↦ ⊥ ] }
 {
     Changeover::new(h1(Kva(10))?, h2(), 365)
 }

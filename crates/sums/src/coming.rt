@@ -8,6 +8,7 @@ pub struct Instalment {
     pub count: u32,
 }
 
+/// A place for each of the next twelve bills, in the account itself, since it keeps no heap.
 #[derive(Clone, Copy)]
 pub struct Coming {
     pub places: [Instalment; 12],

@@ -1,9 +1,10 @@
 // What bills and corrections do to the coming instalments.
-ghost use Rattle.std.specs.Prelude.{◌≡◌, ℕ, ◌+◌, ◌-◌, ◌*◌, ◌/◌, ◌<◌, ◌≤◌, map, length, replicate};
-ghost use Rattle.rules.specs.Sharing.{brought as brought-by};
+ghost use Rattle.std.specs.Prelude.{◌≡◌, ℕ, ◌+◌, ◌-◌, ◌*◌, ◌/◌, ◌<◌, ◌≤◌, map, replicate};
+ghost use Rattle.rules.specs.Sharing.{brought as brought-by, instalment as instalment-by};
 ghost use Rattle.rules.specs.Machine.{moved_up, spread as spread-over};
 ghost use Rattle.sums.specs.Bounds.{seen, none, raised, Low};
 
+use crate::bills::Spreading;
 use crate::coming::{Coming, Instalment};
 use figures::reported::Cents;
 
@@ -12,13 +13,22 @@ const EMPTY: Instalment = Instalment {
     count: 0,
 };
 
-/// What b bills, of the n that u is spread over, have brought.
-fn brought(u: Cents, n: u64, b: u64) -> Cents
-    requires { (u.0 ≤ 1024000000000000) × ((1 ≤ n) × (b ≤ 12)) }
-    ensures { result.0 ≡ brought-by u.0 n b }
-{
-    let paid = if b < n { b } else { n };
-    Cents(u.0 * paid / n)
+impl Spreading {
+    /// What the first `b` bills have brought.
+    fn brought(self, b: u64) -> Cents
+        requires { b ≤ 12 }
+        ensures { result.0 ≡ brought-by self.cents.0 self.bills.count b }
+    {
+        Cents(self.cents.0 * b.min(self.bills.count) / self.bills.count)
+    }
+
+    /// What the bill after the first `b` brings.
+    fn instalment(self, b: u64) -> Cents
+        requires { b < 12 }
+        ensures { result.0 ≡ instalment-by self.cents.0 self.bills.count (b + 1) }
+    {
+        Cents(self.brought(b + 1).0 - self.brought(b).0)
+    }
 }
 
 impl Coming {
@@ -38,14 +48,16 @@ impl Coming {
         self.places[11] = EMPTY;
     }
 
-    /// Spreads u over the next n bills.
-    pub fn spread(&mut self, u: Cents, n: u64)
-        requires least { 1 ≤ n }
-        requires modest { u.0 ≤ 1024000000000000 }
-        requires low { Low self.old.places 1024 }
-        ensures { map seen self.new.places ≡ spread-over u.0 n 1 (map seen self.old.places) }
+    /// Raises the place of each bill that the undercharge is spread over by what that bill brings.
+    /// How low the places are depends on the lines that `Sums` counts, so it is asked here.
+    pub fn spread(&mut self, s: Spreading)
+        requires { Low self.old.places 1024 }
+        ensures { map seen self.new.places ≡ spread-over s.cents.0 s.bills.count 1 (map seen self.old.places) }
     {
-        spread(&mut self.places, u, n);
+        let reached = s.bills.count.min(12) as usize;
+        for (b, place) in self.places[..reached].iter_mut().enumerate() {
+            place.raise(s.instalment(b as u64));
+        }
     }
 }
 
@@ -56,24 +68,7 @@ impl Instalment {
         requires counted { self.old.count ≤ 1024 }
         ensures { self.new ≡ raised self.old part.0 }
     {
-        self.cents = Cents(self.cents.0 + part.0);
+        self.cents.0 += part.0;
         self.count += 1;
-    }
-}
-
-/// Raises each of the first n places by what its bill brings of u.
-fn spread(places: &mut [Instalment], u: Cents, n: u64)
-    requires few { length places.old ≤ 12 }
-    requires least { 1 ≤ n }
-    requires modest { u.0 ≤ 1024000000000000 }
-    requires low { Low places.old 1024 }
-    ensures { map seen places.new ≡ spread-over u.0 n 1 (map seen places.old) }
-{
-    for j in 0..places.len() {
-        let before = j as u64;
-        if before < n {
-            let part = brought(u, n, before + 1).0 - brought(u, n, before).0;
-            places[j].raise(Cents(part));
-        }
     }
 }

@@ -18,10 +18,9 @@ pub relay_sheet-u-requires : goal.relay_sheet-u-requires
 relay_sheet-u-requires g c =
     let a = c.args.self.now in
     let y = correct_yes a c.args.hold (finding_of c.args.f) (g.M.Method.meaning c.args.m.now) c.in_ok-hold.ensures.0 in
-    let s = a.sheet_sound in
+    let s = a.sheet.within_limit in
     let l = a.sheet_limit in
-    let k = a.journal_limit in
-    record { few = (omega arith, (s, omega arith)); span = (y.ordered, y.billed); fits = y.fits; sound = (a.journal_sound, omega arith); room = y.room }
+    record { few = omega arith; span = (y.ordered, y.billed); fits = y.fits; room = y.room }
 
 pub overflow_cast-lines : goal.overflow_cast-lines
 overflow_cast-lines g c =
@@ -36,7 +35,7 @@ pub bills-requires : goal.bills-requires
 bills-requires g c =
     let a = c.args.self.now in
     let y = correct_yes a c.args.hold (finding_of c.args.f) (g.M.Method.meaning c.args.m.now) c.in_ok-hold.ensures.0 in
-    let s = a.sheet_sound in
+    let s = a.sheet.within_limit in
     let l = a.sheet_limit in
     (y.ordered, omega (arith, y.billed))
 
@@ -52,7 +51,7 @@ correct-requires g c =
     let u = c.relay_sheet-u.ensures.small in
     let low = u.low in
     let high = u.high in
-    record { few = omega (arith, d.within, d.most); within = (omega (arith, ints), omega (arith, ints)); least = c.bills.ensures.least }
+    record { few = omega (arith, d.within, d.most); within = (omega (arith, ints), omega (arith, ints)) }
 
 pub invariant_of-self : goal.invariant_of-self
 invariant_of-self g c =
@@ -65,11 +64,8 @@ invariant_of-self g c =
     let d = added a _ (g.T.Tariff.meaning a.tariff) c.in_ok-hold.hold f m y w in
     let lines = ap (λ (t : Totals). t.lines) c.correct.ensures in
     let n = a.counted in
-    let s = a.sheet_sound in
     record {
-      sheet_sound = omega (arith, r.filled, r.limit);
       sheet_limit = r.limit ∙ a.sheet_limit ∙ ap (λ k. min k 120) (sym r.size);
-      journal_sound = omega (arith, d.within, w.limit);
       journal_limit = grown_limit a _ _ w;
       counted = omega (arith, lines, d.filled);
     }
@@ -92,5 +88,5 @@ returns g c =
       sheet_past = e.rows.past;
       journal = e.lines;
       sums = c.correct.ensures;
-    }) (correct c.args.hold f m) c.relay_sheet-u.result.0 c.in_ok-hold.ensures.0 (e.sum ∙ ap (λ z. cents_of (posts t f m z 0 0 0 (state_of a).rows)) c.in_ok-hold.ensures.1) (corrected_is t (opening_of a) a c.in_ok-hold.hold c.args.hold f m c.relay_sheet-u.result.0 c.bills.result (c.relay_sheet-u.new.journal.filled - a.journal.filled) c.in_ok-hold.ensures.1 e.sum c.bills.ensures.value) in
+    }) (correct c.args.hold f m) c.relay_sheet-u.result.0 c.in_ok-hold.ensures.0 (e.sum ∙ ap (λ z. cents_of (posts t f m z 0 0 0 (state_of a).rows)) c.in_ok-hold.ensures.1) (corrected_is t (opening_of a) a c.in_ok-hold.hold c.args.hold f m c.relay_sheet-u.result.0 c.bills.result.count (c.relay_sheet-u.new.journal.filled - a.journal.filled) c.in_ok-hold.ensures.1 e.sum c.bills.ensures) in
     record { after = r.0; law = r.1 }

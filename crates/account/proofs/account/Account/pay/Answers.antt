@@ -28,9 +28,7 @@ invariant_of-self g c =
     let w = grown_by a _ _ _ room refl (appended_by a _ _ room c.append.ensures.after) in
     let lines = ap (λ (t : Totals). t.lines) c.pay.ensures in
     record {
-      sheet_sound = a.sheet_sound;
       sheet_limit = a.sheet_limit;
-      journal_sound = omega (arith, w.filled, w.limit);
       journal_limit = grown_limit a _ _ w;
       counted = lines ∙ ap (λ n. n + 1) a.counted ∙ sym w.filled;
     }
