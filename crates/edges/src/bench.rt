@@ -10,7 +10,6 @@ use figures::units::{Demand, Registers, Units};
 use method::finding::{Cause, Finding, Side};
 use method::test_meter::TestMeter;
 use std::process::Abort;
-use std::test::Fail;
 use tariff::plain::Plain;
 use tariff::rates::{FixedCharge, Rate};
 use tariff::tariff::Tariff;
@@ -59,53 +58,47 @@ pub(crate) const FAST: TestMeter = TestMeter {
     tested: Units { kwh: 1_000 },
 };
 
-/// A case is played on an account just opened.
-pub(crate) trait Case {
-    fn play<T: Tariff, R: Abort>(&self, rt: &R, a: &mut Account<T>) -> Result<(), Fail>;
+/// Memory to lend to an account.
+#[derive(Drop)]
+pub(crate) struct Desk<const ROWS: usize, const LINES: usize> {
+    sheet: [Row; ROWS],
+    journal: [Line; LINES],
 }
 
-/// Plays a case on an account that opens on `day`, with memory for this many rows and lines.
-pub(crate) fn play<T: Tariff + Drop, C: Case, R: Abort>(
-    rt: &R,
-    tariff: T,
-    day: u64,
-    rows: usize,
-    lines: usize,
-    case: &C,
-) -> Result<(), Fail> {
-    let mut sheet = [BLANK; 130];
-    let mut journal = [EMPTY; 1_030];
-    if rows > 130 || lines > 1_030 {
-        return Err(Fail::new("no such memory"));
+impl<const ROWS: usize, const LINES: usize> Desk<ROWS, LINES> {
+    pub(crate) fn new() -> Desk<ROWS, LINES> {
+        Desk {
+            sheet: [BLANK; ROWS],
+            journal: [EMPTY; LINES],
+        }
     }
-    match Account::open(tariff, day, &mut sheet[0..rows], &mut journal[0..lines]) {
-        Ok(mut a) => case.play(rt, &mut a),
-        Err(_) => Err(Fail::new("not opened")),
+
+    /// An account over this memory that opens on `day`.
+    pub(crate) fn open<T: Tariff + Drop>(
+        &mut self,
+        rt: &impl Abort,
+        tariff: T,
+        day: u64,
+    ) -> Account<'_, T> {
+        Account::open(tariff, day, &mut self.sheet, &mut self.journal)
+            .ok()
+            .expect(rt, "not opened")
     }
 }
 
-/// The number of a call's answer.
-pub(crate) fn number<X: Drop>(r: Result<X, Refusal>) -> u32 {
-    match r {
-        Ok(_) => 0,
-        Err(e) => e.number(),
-    }
+/// The number of a call's answer: 0, or that of its refusal.
+pub(crate) fn number<X: Drop>(answer: Result<X, Refusal>) -> u32 {
+    answer.err().map_or(0, Refusal::number)
 }
 
 /// Cents, or minus the number of a refusal.
-pub(crate) fn cents(r: Result<Charge, Refusal>) -> i64 {
-    match r {
-        Ok(c) => c.signed().0,
-        Err(e) => -(e.number() as i64),
-    }
+pub(crate) fn cents(answer: Result<Charge, Refusal>) -> i64 {
+    answer.map_or_else(|e| -i64::from(e.number()), |charge| charge.signed().0)
 }
 
 /// A correction's sum, or none where it is refused.
-pub(crate) fn sum(r: Result<Money, Refusal>) -> Option<i64> {
-    match r {
-        Ok(u) => Some(u.0),
-        Err(_) => None,
-    }
+pub(crate) fn sum(answer: Result<Money, Refusal>) -> Option<i64> {
+    answer.ok().map(|u| u.0)
 }
 
 /// What of the balance has not yet fallen due.
@@ -136,23 +129,15 @@ pub(crate) fn found(cause: Cause, notice: u64, first: u64, last: u64) -> Finding
 /// A finding whose dates are known.
 pub(crate) fn ascertained(cause: Cause, first: u64, last: u64) -> Finding {
     Finding {
-        cause,
-        side: Side::Supplier,
-        notice: 0,
         ascertained: true,
-        first,
-        last,
+        ..found(cause, 0, first, last)
     }
 }
 
 /// A report by the consumer.
 pub(crate) fn reported(cause: Cause, notice: u64, first: u64, last: u64) -> Finding {
     Finding {
-        cause,
         side: Side::Consumer,
-        notice,
-        ascertained: false,
-        first,
-        last,
+        ..found(cause, notice, first, last)
     }
 }

@@ -5,10 +5,9 @@ use std::test::*;
 
 /// The number and the value of the reader's answer.
 fn fault(line: &[u8]) -> (u32, u8) {
-    match read_event(line) {
-        Ok(_) => (0, 0),
-        Err(f) => (f.number(), f.column()),
-    }
+    read_event(line)
+        .err()
+        .map_or((0, 0), |fault| (fault.number(), fault.column()))
 }
 
 #[test]
@@ -52,15 +51,8 @@ fn digits(rt: HostRuntime) -> Result<(), Fail> {
 
 /// Whether the page holds what is expected, and then zeros.
 fn holds(page: &[u8], expected: &[u8]) -> bool {
-    if page.len() < expected.len() || &page[0..expected.len()] != expected {
-        return false;
-    }
-    for b in &page[expected.len()..] {
-        if *b != 0 {
-            return false;
-        }
-    }
-    true
+    page.strip_prefix(expected)
+        .is_some_and(|rest| rest.iter().all(|b| *b == 0))
 }
 
 fn is(answer: Answer, number: u32, value: u64) -> bool {

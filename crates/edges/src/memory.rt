@@ -1,65 +1,40 @@
 // Memory that is short, full, or longer than is used.
 use crate::bench::*;
-use account::account::Account;
 use figures::reported::Cents;
-use std::process::Abort;
-use std::test::*;
-use tariff::tariff::Tariff;
 
-struct NoMemory;
-
-impl Case for NoMemory {
-    fn play<T: Tariff, R: Abort>(&self, rt: &R, a: &mut Account<T>) -> Result<(), Fail> {
-        assert_eq!(rt; number(a.take(0, 10)), 0);
-        assert_eq!(rt; number(a.bill(1, 0, reading(0, 0, 0))), 3);
-        assert_eq!(rt; number(a.pay(1, Cents(1))), 10);
-        assert_eq!(rt; number(a.hand_back(1)), 0);
-        Ok(())
-    }
+#[test]
+fn no_memory(rt: HostRuntime) {
+    let mut desk = Desk::<0, 0>::new();
+    let mut a = desk.open(&rt, H1, 0);
+    assert_eq!(rt; number(a.take(0, 10)), 0);
+    assert_eq!(rt; number(a.bill(1, 0, reading(0, 0, 0))), 3);
+    assert_eq!(rt; number(a.pay(1, Cents(1))), 10);
+    assert_eq!(rt; number(a.hand_back(1)), 0);
 }
 
 #[test]
-fn no_memory(rt: HostRuntime) -> Result<(), Fail> {
-    play(&rt, H1, 0, 0, 0, &NoMemory)
-}
-
-struct AFullSheet;
-
-impl Case for AFullSheet {
-    fn play<T: Tariff, R: Abort>(&self, rt: &R, a: &mut Account<T>) -> Result<(), Fail> {
-        assert_eq!(rt; number(a.take(0, 10)), 0);
-        for day in 0..120u64 {
-            assert_eq!(rt; number(a.bill(1, day, reading(1, 0, 0))), 0);
-        }
-        assert_eq!(rt; number(a.bill(1, 120, reading(1, 0, 0))), 3);
-        assert_eq!(rt; a.rows().len(), 120);
-        assert_eq!(rt; a.balance().0, 120 * 4_140);
-        Ok(())
+fn a_full_sheet(rt: HostRuntime) {
+    let mut desk = Desk::<130, 130>::new();
+    let mut a = desk.open(&rt, H1, 0);
+    assert_eq!(rt; number(a.take(0, 10)), 0);
+    for day in 0..120u64 {
+        assert_eq!(rt; number(a.bill(1, day, reading(1, 0, 0))), 0);
     }
+    assert_eq!(rt; number(a.bill(1, 120, reading(1, 0, 0))), 3);
+    assert_eq!(rt; a.rows().len(), 120);
+    assert_eq!(rt; a.balance().0, 120 * 4_140);
 }
 
 #[test]
-fn a_full_sheet(rt: HostRuntime) -> Result<(), Fail> {
-    play(&rt, H1, 0, 130, 130, &AFullSheet)
-}
-
-struct AFullJournal;
-
-impl Case for AFullJournal {
-    fn play<T: Tariff, R: Abort>(&self, rt: &R, a: &mut Account<T>) -> Result<(), Fail> {
-        assert_eq!(rt; number(a.take(0, 10)), 0);
-        for _ in 0..1_024u64 {
-            assert_eq!(rt; number(a.pay(1, Cents(7))), 0);
-        }
-        assert_eq!(rt; number(a.pay(1, Cents(7))), 10);
-        assert_eq!(rt; number(a.bill(1, 0, reading(0, 0, 0))), 10);
-        assert_eq!(rt; a.lines().len(), 1_024);
-        assert_eq!(rt; a.due().0, -7_168);
-        Ok(())
+fn a_full_journal(rt: HostRuntime) {
+    let mut desk = Desk::<2, 1_030>::new();
+    let mut a = desk.open(&rt, H1, 0);
+    assert_eq!(rt; number(a.take(0, 10)), 0);
+    for _ in 0..1_024u64 {
+        assert_eq!(rt; number(a.pay(1, Cents(7))), 0);
     }
-}
-
-#[test]
-fn a_full_journal(rt: HostRuntime) -> Result<(), Fail> {
-    play(&rt, H1, 0, 2, 1_030, &AFullJournal)
+    assert_eq!(rt; number(a.pay(1, Cents(7))), 10);
+    assert_eq!(rt; number(a.bill(1, 0, reading(0, 0, 0))), 10);
+    assert_eq!(rt; a.lines().len(), 1_024);
+    assert_eq!(rt; a.due().0, -7_168);
 }
