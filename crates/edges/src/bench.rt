@@ -1,61 +1,38 @@
 // What the tests share: memory to lend, a tariff, and answers as numbers.
 use account::account::Account;
 use account::answer::Refusal;
-use figures::dates::{Day, Term};
-use figures::line::{Letter, Line};
+use figures::line::{EMPTY, Line};
 use figures::money::{Charge, Money};
-use figures::reported::{Kva, Kwh, Reading};
-use figures::row::{Row, Sort};
-use figures::units::{Demand, Registers, Units};
-use method::finding::{Cause, Finding, Side};
+use figures::reported::{Cents, Kva, Kwh, Reading};
+use figures::row::{BLANK, Row};
+use figures::units::Units;
+use method::finding::{Cause, Finding, Side, Span};
 use method::test_meter::TestMeter;
 use std::process::Abort;
 use tariff::plain::Plain;
 use tariff::rates::{FixedCharge, Rate};
 use tariff::tariff::Tariff;
 
-const ZEROS: Registers = Registers {
-    day: Units { kwh: 0 },
-    peak: Units { kwh: 0 },
-    demand: Demand { kva: 0 },
-};
-
-const ONE_DAY: Term = Term {
-    first: Day { number: 0 },
-    last: Day { number: 0 },
-};
-
-pub(crate) const BLANK: Row = Row {
-    term: ONE_DAY,
-    sort: Sort::Read,
-    recorded: ZEROS,
-    standing: ZEROS,
-    charge: Charge { cents: 0 },
-};
-
-pub(crate) const EMPTY: Line = Line {
-    hold: 0,
-    letter: Letter::Payment,
-    row: None,
-    cents: Money(0),
-};
-
 /// H-1 at 10 kVA.
 pub(crate) const H1: Plain = Plain {
-    rate: Rate { cents: 1_140 },
-    fixed: FixedCharge { cents: 3_000 },
+    rate: Rate {
+        figure: Cents(1_140),
+    },
+    fixed: FixedCharge {
+        figure: Cents(3_000),
+    },
 };
 
 /// The meter showed 600 where the test meter showed 1,000.
 pub(crate) const SLOW: TestMeter = TestMeter {
-    shown: Units { kwh: 600 },
-    tested: Units { kwh: 1_000 },
+    shown: Units { figure: Kwh(600) },
+    tested: Units { figure: Kwh(1_000) },
 };
 
 /// The meter showed 1,026 where the test meter showed 1,000.
 pub(crate) const FAST: TestMeter = TestMeter {
-    shown: Units { kwh: 1_026 },
-    tested: Units { kwh: 1_000 },
+    shown: Units { figure: Kwh(1_026) },
+    tested: Units { figure: Kwh(1_000) },
 };
 
 /// Memory to lend to an account.
@@ -93,7 +70,7 @@ pub(crate) fn number<X: Drop>(answer: Result<X, Refusal>) -> u32 {
 
 /// Cents, or minus the number of a refusal.
 pub(crate) fn cents(answer: Result<Charge, Refusal>) -> i64 {
-    answer.map_or_else(|e| -i64::from(e.number()), |charge| charge.signed().0)
+    answer.map_or_else(|e| -i64::from(e.number()), |charge| Money::from(charge).0)
 }
 
 /// A correction's sum, or none where it is refused.
@@ -121,8 +98,7 @@ pub(crate) fn found(cause: Cause, notice: u64, first: u64, last: u64) -> Finding
         side: Side::Supplier,
         notice,
         ascertained: false,
-        first,
-        last,
+        span: Span { first, last },
     }
 }
 
