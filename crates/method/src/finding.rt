@@ -1,4 +1,5 @@
 // Causes of corrections, and what a finding says.
+ghost use Rattle.std.specs.Prelude.{◌≡◌, ◌+◌, ◌&&◌, ◌||◌, ◌==◌, nat_le};
 
 /// Why rows are corrected: the reading was absent, the meter ran under or over, stopped, or was altered.
 #[derive(Clone, Copy, Debug, PartialEq, Eq)]
@@ -39,4 +40,19 @@ pub struct Finding {
     pub notice: u64,
     pub ascertained: bool,
     pub span: Span,
+}
+
+impl Span {
+    pub fn has(self, row: u64) -> bool
+        ensures { result ≡ (nat_le self.first row && nat_le row self.last) }
+    {
+        (self.first..=self.last).contains(&row)
+    }
+
+    /// Whether the row is just before the span, or just after it.
+    pub fn adjoins(self, row: u64) -> bool
+        ensures { result ≡ ((row + 1 == self.first) || (row == self.last + 1)) }
+    {
+        self.first.checked_sub(1) == Some(row) || row.checked_sub(1) == Some(self.last)
+    }
 }

@@ -1,10 +1,11 @@
 // What a method lays down for one row.
-ghost use Rattle.std.specs.Prelude.{◌≡◌, ℕ, ◌+◌, ◌-◌, ◌*◌, ◌/◌, ◌<◌, ◌≤◌};
+ghost use Rattle.std.specs.Prelude.{◌≡◌, ℕ, ◌+◌, ◌-◌, ◌*◌, ◌/◌, ◌^◌, ◌<◌, ◌≤◌};
 ghost use Rattle.rules.specs.Subject.{days, day_units, peak_units, day_weight, peak_weight};
 ghost use Rattle.rules.specs.Sharing.{whole as whole_of, share as share-of};
 ghost use Rattle.rules.specs.Laid.{rewrites_sort, rewrites as rewrites-row};
 ghost use Rattle.figures.specs.View.{regs, sort_of, period_seen};
 ghost use Rattle.method.specs.Uses.{finding_of, cause_of};
+ghost use Rattle.sheet.specs.Rows.{pair_fits};
 ghost use Rattle.sheet.specs.Weighing.{Weighed, Light};
 
 use figures::reported::Kwh;
@@ -20,14 +21,37 @@ pub(crate) struct Pair {
     pub peak: u64,
 }
 
-/// Whether a correction rewrites the row at place `i`.
-pub(crate) fn rewrites(f: Finding, i: u64, row: Row) -> bool
-    ensures { result ≡ rewrites-row (finding_of f) i (period_seen row) }
-{
-    f.span.first <= i && i <= f.span.last && rewrites_sort(f.cause, row.sort)
+/// No rows weigh nothing.
+pub(crate) const NONE: Pair = Pair { day: 0, peak: 0 };
+
+impl Pair {
+    /// Whether both shares keep the limit.
+    pub(crate) fn fit(self) -> bool
+        ensures { result ≡ pair_fits self.day self.peak }
+    {
+        self.day <= 1_000_000 && self.peak <= 1_000_000
+    }
+
+    /// The weights with those of one row more.
+    pub(crate) fn plus(self, w: Pair) -> Pair
+        requires { (self.day + w.day < 2 ^ 64) × (self.peak + w.peak < 2 ^ 64) }
+        ensures { (result.day ≡ self.day + w.day) × (result.peak ≡ self.peak + w.peak) }
+    {
+        Pair {
+            day: self.day + w.day,
+            peak: self.peak + w.peak,
+        }
+    }
 }
 
-pub(crate) fn rewrites_sort(c: Cause, s: Sort) -> bool
+/// Whether a correction rewrites the row at place `i`.
+pub(crate) fn rewrites(f: &Finding, i: u64, row: &Row) -> bool
+    ensures { result ≡ rewrites-row (finding_of f.now) i (period_seen row.now) }
+{
+    f.span.has(i) && rewrites_sort(f.cause, row.sort)
+}
+
+fn rewrites_sort(c: Cause, s: Sort) -> bool
     ensures { result ≡ rewrites_sort (cause_of c) (sort_of s) }
 {
     match (c, s) {
@@ -56,9 +80,9 @@ fn share(upper: u64, lower: u64, before: u64, weight: u64) -> u64
 }
 
 /// The weights of a row.
-pub(crate) fn weigh<M: Method>(m: &M, row: Row) -> Pair
-    ensures day { result.day ≡ day_weight (M.Method.meaning m.now) (period_seen row) }
-    ensures peak { result.peak ≡ peak_weight (M.Method.meaning m.now) (period_seen row) }
+pub(crate) fn weigh<M: Method>(m: &M, row: &Row) -> Pair
+    ensures day { result.day ≡ day_weight (M.Method.meaning m.now) (period_seen row.now) }
+    ensures peak { result.peak ≡ peak_weight (M.Method.meaning m.now) (period_seen row.now) }
     ensures light { Light (M.Method.meaning m.now) result.day result.peak }
 {
     let seen = row.metered();
@@ -82,9 +106,9 @@ pub(crate) fn shares<M: Method>(m: &M, before: Pair, w: Pair) -> Pair
 }
 
 /// What the method lays down for a row, its shares given.
-pub(crate) fn lay<M: Method>(m: &M, s: Pair, row: Row) -> Registers
+pub(crate) fn lay<M: Method>(m: &M, s: Pair, row: &Row) -> Registers
     requires { (s.day ≤ 1000000) × (s.peak ≤ 1000000) }
-    ensures { regs result ≡ record { day = s.day; peak = s.peak; demand = (M.Method.meaning m.now).demand (days (period_seen row)) (regs row.recorded) } }
+    ensures { regs result ≡ record { day = s.day; peak = s.peak; demand = (M.Method.meaning m.now).demand (days (period_seen row.now)) (regs row.now.recorded) } }
 {
     let demand = m.demand(row.metered());
     Registers {

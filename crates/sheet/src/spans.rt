@@ -1,11 +1,12 @@
-// Whether the span of a finding is right: the sorts of its rows, and the rule of its cause.
-ghost use Rattle.std.specs.Prelude.{◌≡◌, ℕ, ◌+◌, ◌-◌, ◌<◌, ◌≤◌, Bool, not, ◌&&◌, ◌||◌, length};
+// Whether the span of a finding is right: that it is billed, the sorts of its rows, and the rule of its cause.
+ghost use Rattle.std.specs.Prelude.{◌≡◌, ◌+◌, ◌-◌, ◌≤◌, true, false, MatchOption, length};
 ghost use Rattle.rules.specs.Subject.{is_read};
-ghost use Rattle.rules.specs.Questions.{of_sort, size as rows_in, row_is, has_day, span_right as rule-kept, sorts_right as sorts-are-right, every};
-ghost use Rattle.figures.specs.View.{sort_of, period_seen};
+ghost use Rattle.rules.specs.Questions.{of_sort, bills as bills-over, row_is, has_day, span_right as rule-kept, sorts_right as sorts-are-right, every};
+ghost use Rattle.figures.specs.View.{sort_of};
 ghost use Rattle.method.specs.Uses.{finding_of, cause_of, side_of};
-ghost use Rattle.sheet.specs.Rows.{periods, sort_fits, not_left_out};
+ghost use Rattle.sheet.specs.Rows.{periods, is_billed, sort_fits, not_left_out};
 
+use crate::found::Found;
 use figures::row::{Row, Sort};
 use method::finding::{Cause, Finding, Side};
 
@@ -21,96 +22,103 @@ fn of_sort(c: Cause, s: Sort) -> bool
     }
 }
 
-/// Whether the row at place `i` is outside the span, or of the cause's sort.
-fn sort_fits(f: Finding, i: u64, row: Row) -> bool
-    ensures { result ≡ sort_fits (finding_of f) i (period_seen row) }
-{
-    !(f.span.first <= i && i <= f.span.last) || of_sort(f.cause, row.sort)
-}
-
-/// Whether the row at place `i` does not adjoin the span, or is read.
-fn not_left_out(f: Finding, i: u64, row: Row) -> bool
-    requires { (f.span.last < 1000) × (i < 1000) }
-    ensures { result ≡ not_left_out (finding_of f) i (period_seen row) }
-{
-    !(i + 1 == f.span.first || i == f.span.last + 1) || row.is_read()
-}
-
-fn all_of_sort(f: Finding, rows: &[Row]) -> bool
-    ensures { result ≡ every (sort_fits (finding_of f)) 0 (periods rows.now) }
-{
-    let mut ok = true;
-    for i in 0..rows.len() {
-        ok = ok & sort_fits(f, i as u64, rows[i]);
+impl<'a> Found<'a> {
+    /// The finding over these rows, where its span is billed.
+    pub fn new(finding: Finding, rows: &'a [Row]) -> Option<Found<'a>>
+        requires { length rows.now ≤ 120 }
+        ensures { MatchOption result (is_billed (finding_of finding) (periods rows.now) ≡ false)
+            (λ f. (is_billed (finding_of finding) (periods rows.now) ≡ true) × (f.finding ≡ finding) × (f.rows.now ≡ rows.now)) }
+    {
+        let span = finding.span;
+        if span.first > span.last || span.last >= rows.len() as u64 {
+            return None;
+        }
+        Some(Found { finding, rows })
     }
-    ok
-}
 
-fn none_left_out(f: Finding, rows: &[Row]) -> bool
-    requires { (f.span.last < 1000) × (length rows.now ≤ 120) }
-    ensures { result ≡ every (not_left_out (finding_of f)) 0 (periods rows.now) }
-{
-    let mut ok = true;
-    for i in 0..rows.len() {
-        ok = ok & not_left_out(f, i as u64, rows[i]);
+    fn all_of_sort(&self) -> bool
+        ensures { result ≡ every (sort_fits (finding_of self.now.finding)) 0 (periods self.now.rows.now) }
+    {
+        let Finding { cause, span, .. } = self.finding;
+        self.rows
+            .iter()
+            .enumerate()
+            .all(|(i, row)| !span.has(i as u64) || of_sort(cause, row.sort))
     }
-    ok
-}
 
-/// Whether the rows are of the cause's sort, and for an absent reading no unmetered row that adjoins is left out.
-pub fn sorts_right(f: Finding, rows: &[Row]) -> bool
-    requires { (f.span.last < 1000) × (length rows.now ≤ 120) }
-    ensures { result ≡ sorts-are-right (finding_of f) (periods rows.now) }
-{
-    let free = match f.cause {
-        Cause::Absent => none_left_out(f, rows),
-        _ => true,
-    };
-    all_of_sort(f, rows) && free
-}
-
-/// Whether the row at place `i` is there and holds the day.
-fn day_in(rows: &[Row], i: u64, day: u64) -> bool
-    ensures { result ≡ row_is (has_day day) (periods rows.now) i }
-{
-    let i = i as usize;
-    if i >= rows.len() {
-        return false;
+    fn none_left_out(&self) -> bool
+        ensures { result ≡ every (not_left_out (finding_of self.now.finding)) 0 (periods self.now.rows.now) }
+    {
+        let span = self.finding.span;
+        self.rows
+            .iter()
+            .enumerate()
+            .all(|(i, row)| !span.adjoins(i as u64) || row.is_read())
     }
-    let row = rows[i];
-    row.term.has(day)
-}
 
-/// Whether the row at place `i` is there and is read.
-fn read_at(rows: &[Row], i: u64) -> bool
-    ensures { result ≡ row_is (λ p. is_read p.sort) (periods rows.now) i }
-{
-    let i = i as usize;
-    if i >= rows.len() {
-        return false;
+    /// Whether the rows are of the cause's sort, and for an absent reading no unmetered row that adjoins is left out.
+    pub fn sorts_right(&self) -> bool
+        ensures { result ≡ sorts-are-right (finding_of self.now.finding) (periods self.now.rows.now) }
+    {
+        self.all_of_sort() && (self.finding.cause != Cause::Absent || self.none_left_out())
     }
-    rows[i].is_read()
-}
 
-/// Whether the span keeps the rest of its cause's rule.
-pub fn rule_kept(f: Finding, rows: &[Row]) -> bool
-    requires { (f.span.first ≤ f.span.last) × (f.span.last < 1000) }
-    ensures { result ≡ rule-kept (cause_of f.cause) (side_of f.side) (finding_of f) (periods rows.now) }
-{
-    let size = f.span.last + 1 - f.span.first;
-    match (f.cause, f.side) {
-        (Cause::Absent, _) => read_at(rows, f.span.last + 1),
-        (Cause::Under, Side::Consumer) => size == 1 && day_in(rows, f.span.first, f.notice),
-        (Cause::Under, Side::Supplier) => size <= 3 && day_in(rows, f.span.first, f.notice),
-        (Cause::Over, _) => f.ascertained && size <= 12,
-        (Cause::Stopped, _) => size <= 12
-            && (f.ascertained || day_in(rows, f.span.first, f.notice)),
-        (Cause::Altered, _) => {
-            if f.ascertained {
-                size <= 12
-            } else {
-                size == 3 && day_in(rows, f.span.last + 1, f.notice)
-            }
+    /// Whether the row is there and holds the day of the notice.
+    fn noticed_in(&self, row: u64) -> bool
+        ensures { result ≡ row_is (has_day self.now.finding.notice) (periods self.now.rows.now) row }
+    {
+        let day = self.finding.notice;
+        self.rows
+            .get(row as usize)
+            .is_some_and(|row| row.term.has(day))
+    }
+
+    /// Whether the row is there and is read.
+    fn read_at(&self, row: u64) -> bool
+        ensures { result ≡ row_is (λ p. is_read p.sort) (periods self.now.rows.now) row }
+    {
+        self.rows.get(row as usize).is_some_and(|row| row.is_read())
+    }
+
+    /// How many rows the span has.
+    fn size(&self) -> u64
+        ensures { result ≡ self.now.finding.span.last + 1 - self.now.finding.span.first }
+    {
+        self.finding.span.last + 1 - self.finding.span.first
+    }
+
+    /// Over how many bills an undercharge is spread.
+    pub fn bills(&self) -> u64
+        ensures value { result ≡ bills-over (finding_of self.now.finding) }
+        ensures least { 1 ≤ result }
+    {
+        match self.finding.cause {
+            Cause::Absent => 6,
+            Cause::Altered => 1,
+            _ => self.size(),
+        }
+    }
+
+    /// Whether the span keeps the rest of its cause's rule.
+    pub fn rule_kept(&self) -> bool
+        ensures { result ≡ rule-kept (cause_of self.now.finding.cause) (side_of self.now.finding.side) (finding_of self.now.finding) (periods self.now.rows.now) }
+    {
+        let Finding {
+            cause,
+            side,
+            ascertained,
+            span,
+            ..
+        } = self.finding;
+        let size = self.size();
+        match (cause, side) {
+            (Cause::Absent, _) => self.read_at(span.last + 1),
+            (Cause::Under, Side::Consumer) => size == 1 && self.noticed_in(span.first),
+            (Cause::Under, Side::Supplier) => size <= 3 && self.noticed_in(span.first),
+            (Cause::Over, _) => ascertained && size <= 12,
+            (Cause::Stopped, _) => size <= 12 && (ascertained || self.noticed_in(span.first)),
+            (Cause::Altered, _) if ascertained => size <= 12,
+            (Cause::Altered, _) => size == 3 && self.noticed_in(span.last + 1),
         }
     }
 }
