@@ -1,6 +1,6 @@
 -- Rows entered into the sheet. Assumes nothing.
 use Rattle.std.proofs.Common.{◌≡◌, ℕ, ◌+◌, ◌-◌, ◌<◌, ◌≤◌, List, [], ◌∷◌, ◌++◌, map, length, get_or, take, drop, ℤ, pos, Some, sym, refl, ap, ◌∙◌, ap₂, arith}
-use Rattle.std.proofs.lemmas.List.{take_more, take_more_set, map_push, length-set, drop-set-lt}
+use Rattle.std.proofs.lemmas.List.{take_all, take_more, take_more_set, map_push, length-set, drop-set-lt}
 use Rattle.rules.specs.Subject.{Registers, Period, Tariff, charge_on}
 use Rattle.rules.specs.Laid.{next_day, metered}
 use Rattle.rules.specs.Law as law
@@ -19,14 +19,15 @@ next_push d [] p = refl
 next_push d (q ∷ ps) p = next_push (q.last + 1) ps p
 
 -- the day after the last row's
-pub next_is : (d n : ℕ) (rows : List Row) (x : Row) → 1 ≤ n → n ≤ length rows → x ≡ get_or rows (n - 1) x → x.term.last.figure + 1 ≡ next_day d (map period_of (map seen (take n rows)))
-next_is d n rows x one h read =
-    let e : n ≡ (n - 1) + 1 = omega arith in
-    let t : take n rows ≡ take (n - 1) rows ++ (x ∷ []) = ap (λ k. take k rows) e ∙ take_more rows (n - 1) x (omega arith) ∙ ap (λ y. take (n - 1) rows ++ (y ∷ [])) (sym read) in
+pub next_is : (d : ℕ) (rows : List Row) (x : Row) → 1 ≤ length rows → x ≡ get_or rows (length rows - 1) x → x.term.last.figure + 1 ≡ next_day d (map period_of (map seen rows))
+next_is d rows x one read =
+    let n = length rows - 1 in
+    let e : length rows ≡ n + 1 = omega arith in
+    let t : rows ≡ take n rows ++ (x ∷ []) = sym (take_all (length rows) rows (omega arith)) ∙ ap (λ k. take k rows) e ∙ take_more rows n x (omega arith) ∙ ap (λ y. take n rows ++ (y ∷ [])) (sym read) in
     sym (ap (λ xs. next_day d (map period_of (map seen xs))) t
-    ∙ ap (λ ps. next_day d (map period_of ps)) (map_push seen (take (n - 1) rows) x)
-    ∙ ap (next_day d) (map_push period_of (map seen (take (n - 1) rows)) (seen x))
-    ∙ next_push d (map period_of (map seen (take (n - 1) rows))) (period_seen x))
+    ∙ ap (λ ps. next_day d (map period_of ps)) (map_push seen (take n rows) x)
+    ∙ ap (next_day d) (map_push period_of (map seen (take n rows)) (seen x))
+    ∙ next_push d (map period_of (map seen (take n rows))) (period_seen x))
 
 -- one row more
 pub rows_more : (p q : Pages Row) (x : Row) → p.filled < length p.memory → q ≡ written p x → rows_of q ≡ rows_of p ++ (seen x ∷ [])

@@ -5,20 +5,33 @@ ghost use Rattle.account.specs.Answers.{number_of};
 
 use figures::reported::OutOfLimits;
 
-#[derive(Clone, Copy)]
+/// Each is numbered as the question that was answered no.
+#[derive(Clone, Copy, Debug, PartialEq, Eq)]
 pub enum Refusal {
-    NoHold,
-    Figures,
-    SheetFull,
-    Period,
-    NotBilled,
-    WrongSort,
-    WrongSpan,
-    NoFit,
-    ShareTooLarge,
-    JournalFull,
-    Held,
-    NoNumber,
+    /// The named hold does not stand.
+    NoHold = 1,
+    /// A figure is out of its limits.
+    Figures = 2,
+    /// The sheet has no place.
+    SheetFull = 3,
+    /// The period has no lawful number of days.
+    Period = 4,
+    /// The span is not billed.
+    NotBilled = 5,
+    /// A row is not of the cause's sort, or an unmetered one that adjoins is left out.
+    WrongSort = 6,
+    /// The span breaks the rest of its cause's rule.
+    WrongSpan = 7,
+    /// The method does not name the use, or does not fit.
+    NoFit = 8,
+    /// A share is over 1,000,000.
+    ShareTooLarge = 9,
+    /// The journal has not lines enough.
+    JournalFull = 10,
+    /// Another hold stands.
+    Held = 11,
+    /// No number is left for a hold.
+    NoNumber = 12,
 }
 
 impl Refusal {
@@ -26,20 +39,7 @@ impl Refusal {
     pub fn number(self) -> u32
         ensures { result ≡ number_of self }
     {
-        match self {
-            Refusal::NoHold => 1,
-            Refusal::Figures => 2,
-            Refusal::SheetFull => 3,
-            Refusal::Period => 4,
-            Refusal::NotBilled => 5,
-            Refusal::WrongSort => 6,
-            Refusal::WrongSpan => 7,
-            Refusal::NoFit => 8,
-            Refusal::ShareTooLarge => 9,
-            Refusal::JournalFull => 10,
-            Refusal::Held => 11,
-            Refusal::NoNumber => 12,
-        }
+        self as u32
     }
 }
 

@@ -17,14 +17,8 @@ impl<'a, T> Account<'a, T> {
         ensures { Says (stands (view (state_of self.now)) hold) (λ n. n ≡ hold) NoHold result }
     {
         match self.holding {
-            Some(h) => {
-                if h.number as u64 == hold {
-                    Ok(h.number)
-                } else {
-                    Err(Refusal::NoHold)
-                }
-            }
-            None => Err(Refusal::NoHold),
+            Some(h) if u64::from(h.number) == hold => Ok(h.number),
+            _ => Err(Refusal::NoHold),
         }
     }
 
@@ -32,12 +26,10 @@ impl<'a, T> Account<'a, T> {
     pub(crate) fn next_day(&self) -> u64
         ensures value { result ≡ next_day self.now.opening.figure (periods_of (state_of self.now)) }
     {
-        if self.sheet.filled == 0 {
-            return self.opening.figure;
+        match self.sheet.records().last() {
+            Some(row) => row.term.last.figure + 1,
+            None => self.opening.figure,
         }
-        let rows = &*self.sheet.memory;
-        let row = rows[self.sheet.filled - 1];
-        row.term.last.figure + 1
     }
 
     /// Whether the sheet has a place.
@@ -55,10 +47,7 @@ impl<'a, T> Account<'a, T> {
     pub(crate) fn next_term(&self, last: Day) -> Result<Term, Refusal>
         ensures { Says (is_term (next_day self.now.opening.figure (periods_of (state_of self.now))) last.figure) (λ t. (t.first.figure ≡ next_day self.now.opening.figure (periods_of (state_of self.now))) × (t.last.figure ≡ last.figure)) Period result }
     {
-        match Term::new(self.next_day(), last) {
-            Some(term) => Ok(term),
-            None => Err(Refusal::Period),
-        }
+        Term::new(self.next_day(), last).ok_or(Refusal::Period)
     }
 
     /// Whether the journal has places for n lines.

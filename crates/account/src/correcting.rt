@@ -14,59 +14,56 @@ use crate::answer::Refusal;
 use figures::dates::Day;
 use figures::money::Money;
 use figures::row::Row;
-use method::finding::{Cause, Finding, Use};
+use method::finding::{Finding, Use};
 use method::method::{Method, may_serve};
-use sheet::{asking, relaying, spans};
+use sheet::found::Found;
+use sheet::relaying;
 use sums::bills::Bills;
 use tariff::tariff::Tariff;
 
-/// Over how many bills an undercharge is spread.
-fn bills(f: Finding) -> Bills
-    requires { (f.span.first ≤ f.span.last) × (f.span.last < 1000) }
-    ensures { result.count ≡ bills-over (finding_of f) }
-{
-    let count = match f.cause {
-        Cause::Absent => 6,
-        Cause::Altered => 1,
-        _ => f.span.last + 1 - f.span.first,
-    };
-    Bills { count }
+/// A correction that every question has passed.
+#[derive(Clone, Copy)]
+struct Correcting {
+    hold: u32,
+    bills: Bills,
 }
 
-/// The questions about the rows and the method.
-fn ask_rows<M: Method>(m: &M, f: Finding, rows: &[Row]) -> Result<(), Refusal>
+/// The questions about the rows and the method; the finding over its rows.
+fn ask_rows<'r, M: Method>(m: &M, f: Finding, rows: &'r [Row]) -> Result<Found<'r>, Refusal>
     requires { length rows.now ≤ 120 }
-    ensures { Asked (first_no (rows_asked (finding_of f) (M.Method.meaning m.now) (periods rows.now))) (λ _. Unit {0}) result }
+    ensures { Asked (first_no (rows_asked (finding_of f) (M.Method.meaning m.now) (periods rows.now))) (λ found. (found.finding ≡ f) × (found.rows.now ≡ rows.now)) result }
 {
-    if f.span.first > f.span.last || f.span.last >= rows.len() as u64 {
-        return Err(Refusal::NotBilled);
-    }
-    if !spans::sorts_right(f, rows) {
+    let found = Found::new(f, rows).ok_or(Refusal::NotBilled)?;
+    if !found.sorts_right() {
         return Err(Refusal::WrongSort);
     }
-    if !spans::rule_kept(f, rows) {
+    if !found.rule_kept() {
         return Err(Refusal::WrongSpan);
     }
     if !may_serve(m, Use::Correcting(f.cause), f.span) {
         return Err(Refusal::NoFit);
     }
-    if !asking::shares_fit(m, f, rows) {
+    if !found.shares_fit(m) {
         return Err(Refusal::ShareTooLarge);
     }
-    Ok(())
+    Ok(found)
 }
 
 impl<'a, T: Tariff> Account<'a, T> {
-    /// The questions of a correction; the number of its hold.
-    fn ask_correct<M: Method>(&self, hold: u64, f: Finding, m: &M) -> Result<u32, Refusal>
-        ensures { Asked (question (opening_of self.now) (view (state_of self.now)) (correct hold (finding_of f) (M.Method.meaning m.now))) (λ n. n ≡ hold) result }
+    /// The questions of a correction.
+    fn ask_correct<M: Method>(&self, hold: u64, f: Finding, m: &M) -> Result<Correcting, Refusal>
+        ensures { Asked (question (opening_of self.now) (view (state_of self.now)) (correct hold (finding_of f) (M.Method.meaning m.now))) (λ c. (c.hold ≡ hold) × (c.bills.count ≡ bills-over (finding_of f))) result }
     {
         let hold = self.held(hold)?;
         let _ = Day::new(f.notice)?;
-        let rows = self.rows();
-        ask_rows(m, f, rows)?;
-        self.journal_takes(asking::count(f, rows))?;
-        Ok(hold)
+        let found = ask_rows(m, f, self.rows())?;
+        self.journal_takes(found.count())?;
+        Ok(Correcting {
+            hold,
+            bills: Bills {
+                count: found.bills(),
+            },
+        })
     }
 
     /// Lays new registers on the rows of a finding, and spreads or settles what that comes to.
@@ -74,7 +71,7 @@ impl<'a, T: Tariff> Account<'a, T> {
         ensures after { Stepped T.Tariff.meaning self.old self.new (correct hold (finding_of f) (M.Method.meaning m.now)) (corrected_answer result) }
         ensures law { LawfulAfter T.Tariff.meaning self.old self.new (correct hold (finding_of f) (M.Method.meaning m.now)) }
     {
-        let hold = self.ask_correct(hold, f, m)?;
+        let Correcting { hold, bills } = self.ask_correct(hold, f, m)?;
         let before = self.journal.filled;
         let u = relaying::relay_sheet(
             &mut self.tariff,
@@ -85,7 +82,7 @@ impl<'a, T: Tariff> Account<'a, T> {
             &mut self.journal,
         );
         let lines = (self.journal.filled - before) as u32;
-        self.sums.correct(u, bills(f), lines);
+        self.sums.correct(u, bills, lines);
         Ok(u)
     }
 }

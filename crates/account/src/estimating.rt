@@ -44,7 +44,7 @@ fn ask_share<M: Method>(m: &M, late: bool, place: u64, term: Term) -> Result<(),
     ) {
         return Err(Refusal::NoFit);
     }
-    if !estimating::share_fits(m, estimating::blank(term, Sort::Estimated)) {
+    if !estimating::share_fits(m, &estimating::blank(term, Sort::Estimated)) {
         return Err(Refusal::ShareTooLarge);
     }
     Ok(())

@@ -17,14 +17,8 @@ impl<'a, T: Tariff> Account<'a, T> {
         ensures { Says (is_free (view (state_of self.now)) moment) (λ _. Unit {0}) Held result }
     {
         match self.holding {
-            Some(h) => {
-                if h.until <= moment {
-                    Ok(())
-                } else {
-                    Err(Refusal::Held)
-                }
-            }
-            None => Ok(()),
+            Some(h) if h.until > moment => Err(Refusal::Held),
+            _ => Ok(()),
         }
     }
 
