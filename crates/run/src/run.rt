@@ -50,8 +50,8 @@ fn serve<T: Tariff, M: Method>(a: &mut Account<T>, ask: &Ask<M>)
 pub fn serve_all<T: Tariff, M: Method>(a: &mut Account<T>, asks: &[Ask<M>])
     ensures law { Follows T.Tariff.meaning a.old a.new (map (call_of M.Method.meaning) asks.now) }
 {
-    for i in 0..asks.len() {
-        serve(a, &asks[i]);
+    for ask in asks {
+        serve(a, ask);
     }
 }
 

@@ -2,5 +2,5 @@ use Rattle.std.proofs.Common.{map, take}
 use Rattle.run.specs.Runs.{call_of, Follows}
 use Rattle.run.proofs.run.serve_all.Given as goal
 
-abbrev pub invariant-loop-i : goal.invariant-loop-i
-invariant-loop-i g l = Follows g.T.Tariff.meaning l.initial.a l.a (map (call_of g.M.Method.meaning) (take l.i l.asks))
+abbrev pub invariant-loop-ask : goal.invariant-loop-ask
+invariant-loop-ask g l = Follows g.T.Tariff.meaning l.initial.a l.a (map (call_of g.M.Method.meaning) (take l.ask-index l.asks))
