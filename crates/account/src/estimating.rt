@@ -19,7 +19,7 @@ use method::method::{Method, may_serve};
 use sheet::estimating;
 use tariff::tariff::Tariff;
 
-/// An estimate that every question has passed; late from the seventh unmetered row of a run on.
+/// An estimate that every question has passed; late from the seventh unmetered row of a run on, a flag with no value of its own.
 #[derive(Clone, Copy)]
 struct Estimating {
     hold: u32,

@@ -8,7 +8,7 @@ pub enum Letter {
     Payment,
 }
 
-/// What one call moved the balance by. A payment's line names no row.
+/// What one call moved the balance by. A payment's line names no row; the project asks for the row as an Option.
 #[derive(Clone, Copy)]
 pub struct Line {
     pub hold: u32,

@@ -42,7 +42,7 @@ impl Figure for Cents {
     }
 }
 
-/// Units of energy in kWh, of any size.
+/// Units of energy in kWh, of any size. Each unit is a struct of its own, so that no figure is taken for one of another.
 #[derive(Clone, Copy)]
 pub struct Kwh(pub u64);
 

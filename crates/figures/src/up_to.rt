@@ -24,7 +24,7 @@ impl<F: Figure, const MOST: u64> Clone for UpTo<F, MOST> {
 impl<F: Figure, const MOST: u64> Copy for UpTo<F, MOST> {}
 
 impl<F: Figure, const MOST: u64> UpTo<F, MOST> {
-    /// The reported figure, where it is in its limit.
+    /// The reported figure, where it is in its limit. No `TryFrom`: for every `F` it would overlap the library's own.
     pub fn new(figure: F) -> Result<UpTo<F, MOST>, OutOfLimits>
         ensures { elim result [ Ok u ↦ (nat_le (F.size figure) MOST ≡ true) × (u.figure ≡ figure) | Err _ ↦ nat_le (F.size figure) MOST ≡ false ] }
     {

@@ -32,7 +32,7 @@ pub struct Span {
     pub last: u64,
 }
 
-/// What a correction rests on. It is ascertained where its dates are known.
+/// What a correction rests on. It is ascertained where its dates are known: a flag alone, since the span stands either way.
 #[derive(Clone, Copy)]
 pub struct Finding {
     pub cause: Cause,

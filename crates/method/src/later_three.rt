@@ -17,6 +17,7 @@ use crate::uses::Uses;
 use figures::row::{Recorded, Row};
 use figures::units::{Demand, Register};
 
+/// No twin of the previous three: it asks another question, serves other uses and fits another span; the rest is `ThreeRows`.
 #[derive(Clone, Copy)]
 pub struct LaterThree {
     pub three: ThreeRows,

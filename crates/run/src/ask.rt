@@ -2,7 +2,8 @@
 use figures::reported::{Cents, Reading};
 use method::finding::Finding;
 
-/// An estimate and a correction each bring a method of their own.
+/// An estimate and a correction each bring a method of their own, which no line of a text carries yet: so this is no twin of
+/// `events::event::Event`.
 #[derive(Clone, Copy)]
 pub enum Ask<M> {
     Take {
