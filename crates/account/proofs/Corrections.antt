@@ -17,8 +17,20 @@ use Rattle.account.proofs.Calls.{all_yes, room_said, periods_length, made}
 use Rattle.figures.specs.declared.row.Row.{Row}
 use Rattle.sheet.specs.Rows.{periods}
 
+pub length-periods : (rows : List Row) → length (periods rows) ≡ length rows
+length-periods rows = length-map (map _ rows) _ ∙ length-map rows _
+
+pub billed_yes : (first last : ℕ) (rows : List Row) → first ≤ last → last < length rows → (leb first last && ltb last (length (periods rows))) ≡ true
+billed_yes first last rows h k = (and_from _ _ (le-leb first last h) (lt-ltb last (length (periods rows)) (omega (arith, length-periods rows))))
+
+pub billed_no : (first last : ℕ) (rows : List Row) → (last < first) ⊎ ((first ≤ last) × (length rows ≤ last)) → (leb first last && ltb last (length (periods rows))) ≡ false
+billed_no first last rows h =
+    (⊎_elim (λ a. and_left _ _ (lt-leb first last a)) (λ b. and_right _ _ (le-ltb last (length (periods rows)) (omega (arith, b.1, length-periods rows)))) h)
+
 -- what an accepted correction knows
 pub record Correctable {T : Type 0} (a : Account T) (f : Finding) (m : Method) : Type 0 where
+  pub ordered : f.first ≤ f.last
+  pub billed : f.last < a.sheet.filled
   pub fits : all_fit (rewritten f 0 (corrected f m 0 0 0 (periods_of (state_of a)))) ≡ true
   pub room : a.journal.filled + length (rewritten f 0 (periods_of (state_of a))) ≤ a.journal.limit
 
@@ -26,7 +38,10 @@ pub correct_yes : {T : Type 0} (a : Account T) (hold : ℕ) (f : Finding) (m : M
 unfolding asked
 correct_yes a hold f m e =
     let y = all_yes (asked (opening_of a) (view (state_of a)) (correct hold f m)) refl e in
+    let five = and_parts (leb f.first f.last) (ltb f.last (length (periods_of (state_of a)))) y.1.1.0 in
     record {
+      ordered = leb-true _ _ five.0;
+      billed = omega (arith, ltb-true _ _ five.1, periods_length a);
       fits = y.1.1.1.1.1.1.0;
       room = omega (arith, leb-true _ _ (sym (room_said a (length (rewritten f 0 (periods_of (state_of a))))) ∙ y.1.1.1.1.1.1.1.0));
     }

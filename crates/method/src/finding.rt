@@ -1,5 +1,5 @@
 // Causes of corrections, and what a finding says.
-ghost use Rattle.std.specs.Prelude.{◌≡◌, ◌+◌, ◌&&◌, ◌||◌, ◌==◌, nat_le};
+ghost use Rattle.std.specs.Prelude.{◌≡◌, ◌+◌, ◌-◌, ◌&&◌, ◌||◌, ◌==◌, nat_le};
 
 /// Why rows are corrected: the reading was absent, the meter ran under or over, stopped, or was altered.
 #[derive(Clone, Copy, Debug, PartialEq, Eq)]
@@ -47,6 +47,13 @@ impl Span {
         ensures { result ≡ (nat_le self.first row && nat_le row self.last) }
     {
         (self.first..=self.last).contains(&row)
+    }
+
+    /// How many rows it has: none where the last comes before the first.
+    pub fn size(self) -> u128
+        ensures { result ≡ self.last + 1 - self.first }
+    {
+        (u128::from(self.last) + 1).saturating_sub(u128::from(self.first))
     }
 
     /// Whether the row is just before the span, or just after it.

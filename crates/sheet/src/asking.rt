@@ -25,6 +25,7 @@ impl<'a> Found<'a> {
 
     /// Whether every share of the rows that a correction rewrites keeps the limit.
     pub fn shares_fit<M: Method>(&self, m: &M) -> bool
+        requires { length self.now.rows.now ≤ 120 }
         ensures { result ≡ all_fit (rewritten (finding_of self.now.finding) 0 (corrected (finding_of self.now.finding) (M.Method.meaning m.now) 0 0 0 (periods self.now.rows.now))) }
     {
         let mut before = NONE;

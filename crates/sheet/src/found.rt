@@ -1,15 +1,10 @@
 // A finding laid over the rows of a sheet.
-ghost use Rattle.std.specs.Prelude.{◌<◌, ◌≤◌, length};
-
 use figures::row::Row;
 use method::finding::Finding;
 
-/// A finding whose span is billed, and the sheet's rows.
+/// A finding, and the rows that its questions are asked of. Its span may be any, since asking is what tells.
 #[derive(Clone, Copy)]
 pub struct Found<'a> {
     pub finding: Finding,
     pub rows: &'a [Row],
-    ghost ordered: { finding.span.first ≤ finding.span.last },
-    ghost billed: { finding.span.last < length rows.now },
-    ghost few: { length rows.now ≤ 120 },
 }

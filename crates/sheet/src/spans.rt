@@ -1,7 +1,7 @@
-// Whether the span of a finding is right: that it is billed, the sorts of its rows, and the rule of its cause.
-ghost use Rattle.std.specs.Prelude.{◌≡◌, ◌+◌, ◌-◌, ◌≤◌, true, false, MatchOption, length};
-ghost use Rattle.rules.specs.Subject.{is_read};
-ghost use Rattle.rules.specs.Questions.{of_sort, bills as bills-over, row_is, has_day, span_right as rule-kept, sorts_right as sorts-are-right, every};
+// Whether the span of a finding is right: whether it is billed, the sorts of its rows, and the rule of its cause.
+ghost use Rattle.std.specs.Prelude.{◌≡◌, ◌+◌, Bool};
+ghost use Rattle.rules.specs.Subject.{Period, is_read};
+ghost use Rattle.rules.specs.Questions.{of_sort, row_is, has_day, span_right as rule-kept, sorts_right as sorts-are-right, every};
 ghost use Rattle.figures.specs.View.{sort_of};
 ghost use Rattle.method.specs.Uses.{finding_of, cause_of, side_of};
 ghost use Rattle.sheet.specs.Rows.{periods, is_billed, sort_fits, not_left_out};
@@ -23,17 +23,12 @@ fn of_sort(c: Cause, s: Sort) -> bool
 }
 
 impl<'a> Found<'a> {
-    /// The finding over these rows, where its span is billed.
-    pub fn new(finding: Finding, rows: &'a [Row]) -> Option<Found<'a>>
-        requires { length rows.now ≤ 120 }
-        ensures { MatchOption result (is_billed (finding_of finding) (periods rows.now) ≡ false)
-            (λ f. (is_billed (finding_of finding) (periods rows.now) ≡ true) × (f.finding ≡ finding) × (f.rows.now ≡ rows.now)) }
+    /// Whether the span is in order and its last row is there.
+    pub fn is_billed(&self) -> bool
+        ensures { result ≡ is_billed (finding_of self.now.finding) (periods self.now.rows.now) }
     {
-        let span = finding.span;
-        if span.first > span.last || span.last >= rows.len() as u64 {
-            return None;
-        }
-        Some(Found { finding, rows })
+        let span = self.finding.span;
+        span.first <= span.last && span.last < self.rows.len() as u64
     }
 
     fn all_of_sort(&self) -> bool
@@ -80,23 +75,11 @@ impl<'a> Found<'a> {
         self.rows.get(row as usize).is_some_and(|row| row.is_read())
     }
 
-    /// How many rows the span has.
-    fn size(&self) -> u64
-        ensures { result ≡ self.now.finding.span.last + 1 - self.now.finding.span.first }
+    /// The row just after the span, or one beyond the sheet where that is.
+    fn after(&self) -> u64
+        ensures { (test : Period → Bool) → row_is test (periods self.now.rows.now) result ≡ row_is test (periods self.now.rows.now) (self.now.finding.span.last + 1) }
     {
-        self.finding.span.last + 1 - self.finding.span.first
-    }
-
-    /// Over how many bills an undercharge is spread.
-    pub fn bills(&self) -> u64
-        ensures value { result ≡ bills-over (finding_of self.now.finding) }
-        ensures least { 1 ≤ result }
-    {
-        match self.finding.cause {
-            Cause::Absent => 6,
-            Cause::Altered => 1,
-            _ => self.size(),
-        }
+        self.finding.span.last.min(self.rows.len() as u64) + 1
     }
 
     /// Whether the span keeps the rest of its cause's rule.
@@ -110,15 +93,15 @@ impl<'a> Found<'a> {
             span,
             ..
         } = self.finding;
-        let size = self.size();
+        let size = span.size();
         match (cause, side) {
-            (Cause::Absent, _) => self.read_at(span.last + 1),
+            (Cause::Absent, _) => self.read_at(self.after()),
             (Cause::Under, Side::Consumer) => size == 1 && self.noticed_in(span.first),
             (Cause::Under, Side::Supplier) => size <= 3 && self.noticed_in(span.first),
             (Cause::Over, _) => ascertained && size <= 12,
             (Cause::Stopped, _) => size <= 12 && (ascertained || self.noticed_in(span.first)),
             (Cause::Altered, _) if ascertained => size <= 12,
-            (Cause::Altered, _) => size == 3 && self.noticed_in(span.last + 1),
+            (Cause::Altered, _) => size == 3 && self.noticed_in(self.after()),
         }
     }
 }

@@ -1,9 +1,9 @@
-use Rattle.std.proofs.Common.{◌≡◌, ◌+◌, leb, [], ◌∷◌, map, length, sym, refl, ap, ap₂, ◌∙◌, arith}
+use Rattle.std.proofs.Common.{◌≡◌, ◌+◌, leb, [], ◌∷◌, map, length, sym, refl, ap, ◌∙◌, arith}
 use Rattle.rules.specs.Laid.{rewritten}
-use Rattle.rules.specs.Questions.{asked, bills, first_no, journal_room}
+use Rattle.rules.specs.Questions.{asked, first_no, journal_room}
 use Rattle.rules.specs.Machine.{period_of, periods_of}
 use Rattle.method.specs.Uses.{finding_of}
-use Rattle.sheet.specs.Rows.{periods}
+use Rattle.sheet.proofs.Listed.{rewritten_few}
 use Rattle.account.specs.Corrections.{rows_asked}
 use Rattle.account.specs.State.{state_of, opening_of}
 use Rattle.account.specs.Answers.{number_of}
@@ -15,7 +15,9 @@ pub ask_rows-requires : goal.ask_rows-requires
 ask_rows-requires g c = rows_few c.args.self.now _ c.rows.ensures
 
 pub journal_takes-requires : goal.journal_takes-requires
-journal_takes-requires g c = omega (arith, c.count.ensures.few, rows_few c.args.self.now _ c.rows.ensures)
+journal_takes-requires g c =
+    let few = rewritten_few (finding_of c.args.f) 0 c.rows.result.now in
+    omega (arith, few, c.in_ok-lines.ensures.1, rows_few c.args.self.now _ c.rows.ensures)
 
 pub returns-in_err-hold : goal.returns-in_err-hold
 unfolding asked
@@ -29,17 +31,17 @@ returns-in_err-new g c =
     asked_err _ _ c.from_residual-in_err-new.result Figures c.from_residual-in_err-new.ensures.1
     (pass _ _ _ _ c.in_ok-hold.ensures.0 (stop _ _ _ c.in_err-new.ensures))
 
-pub returns-in_err-found : goal.returns-in_err-found
+pub returns-in_err-lines : goal.returns-in_err-lines
 unfolding asked
-returns-in_err-found g c =
+returns-in_err-lines g c =
     let a = c.args.self.now in
     let f = finding_of c.args.f in
     let m = g.M.Method.meaning c.args.m.now in
     let ps = ap (map period_of) c.rows.ensures in
-    let e : first_no (rows_asked f m (periods_of (state_of a))) ≡ number_of c.in_err-found.field-0.0 = ap (λ x. first_no (rows_asked f m x)) (sym ps) ∙ c.in_err-found.ensures in
-    asked_err _ _ c.from_residual-in_err-found.result c.in_err-found.field-0.0 c.from_residual-in_err-found.ensures.1
+    let e : first_no (rows_asked f m (periods_of (state_of a))) ≡ number_of c.in_err-lines.field-0.0 = ap (λ x. first_no (rows_asked f m x)) (sym ps) ∙ c.in_err-lines.ensures in
+    asked_err _ _ c.from_residual-in_err-lines.result c.in_err-lines.field-0.0 c.from_residual-in_err-lines.ensures.1
     (pass _ _ _ _ c.in_ok-hold.ensures.0 (pass _ _ _ _ c.in_ok-new.ensures.0
-    (more_asked (rows_asked f m (periods_of (state_of a))) ((10, leb (length (state_of a).lines + length (rewritten f 0 (periods_of (state_of a)))) (journal_room (opening_of a))) ∷ []) _ (number_least c.in_err-found.field-0.0) e)))
+    (more_asked (rows_asked f m (periods_of (state_of a))) ((10, leb (length (state_of a).lines + length (rewritten f 0 (periods_of (state_of a)))) (journal_room (opening_of a))) ∷ []) _ (number_least c.in_err-lines.field-0.0) e)))
 
 pub returns-in_err-journal_takes : goal.returns-in_err-journal_takes
 unfolding asked
@@ -49,9 +51,8 @@ returns-in_err-journal_takes g c =
     let m = g.M.Method.meaning c.args.m.now in
     let ps = ap (map period_of) c.rows.ensures in
     let said = c.in_err-journal_takes.ensures in
-    let made = c.in_ok-found.ensures.1 in
-    let n : c.count.result ≡ length (rewritten f 0 (periods_of (state_of a))) = c.count.ensures.value ∙ ap₂ (λ z rows. length (rewritten (finding_of z) 0 (periods rows))) made.0 made.1 ∙ ap (λ x. length (rewritten f 0 x)) ps in
-    let e : first_no (rows_asked f m (periods_of (state_of a))) ≡ 0 = ap (λ x. first_no (rows_asked f m x)) (sym ps) ∙ c.in_ok-found.ensures.0 in
+    let n : c.in_ok-lines.lines ≡ length (rewritten f 0 (periods_of (state_of a))) = c.in_ok-lines.ensures.1 ∙ ap (λ x. length (rewritten f 0 x)) ps in
+    let e : first_no (rows_asked f m (periods_of (state_of a))) ≡ 0 = ap (λ x. first_no (rows_asked f m x)) (sym ps) ∙ c.in_ok-lines.ensures.0 in
     asked_err _ _ c.from_residual-in_err-journal_takes.result c.in_err-journal_takes.field-0.0 c.from_residual-in_err-journal_takes.ensures.1
     (pass _ _ _ _ c.in_ok-hold.ensures.0 (pass _ _ _ _ c.in_ok-new.ensures.0
     (all_asked (rows_asked f m (periods_of (state_of a))) ((10, leb (length (state_of a).lines + length (rewritten f 0 (periods_of (state_of a)))) (journal_room (opening_of a))) ∷ []) _ refl e
@@ -65,11 +66,10 @@ returns g c =
     let m = g.M.Method.meaning c.args.m.now in
     let ps = ap (map period_of) c.rows.ensures in
     let held = c.in_ok-hold.ensures in
-    let made = c.in_ok-found.ensures.1 in
-    let n : c.count.result ≡ length (rewritten f 0 (periods_of (state_of a))) = c.count.ensures.value ∙ ap₂ (λ z rows. length (rewritten (finding_of z) 0 (periods rows))) made.0 made.1 ∙ ap (λ x. length (rewritten f 0 x)) ps in
-    let e : first_no (rows_asked f m (periods_of (state_of a))) ≡ 0 = ap (λ x. first_no (rows_asked f m x)) (sym ps) ∙ c.in_ok-found.ensures.0 in (
+    let n : c.in_ok-lines.lines ≡ length (rewritten f 0 (periods_of (state_of a))) = c.in_ok-lines.ensures.1 ∙ ap (λ x. length (rewritten f 0 x)) ps in
+    let e : first_no (rows_asked f m (periods_of (state_of a))) ≡ 0 = ap (λ x. first_no (rows_asked f m x)) (sym ps) ∙ c.in_ok-lines.ensures.0 in (
       pass _ _ _ _ held.0 (pass _ _ _ _ c.in_ok-new.ensures.0
           (all_asked (rows_asked f m (periods_of (state_of a))) ((10, leb (length (state_of a).lines + length (rewritten f 0 (periods_of (state_of a)))) (journal_room (opening_of a))) ∷ []) _ refl e
           (pass _ _ _ _ (ap (λ k. leb (length (state_of a).lines + k) (journal_room (opening_of a))) (sym n) ∙ c.in_ok-journal_takes.ensures.0) refl))),
-      (held.1, c.bills.ensures.value ∙ ap (λ z. bills (finding_of z)) made.0),
+      held.1,
     )

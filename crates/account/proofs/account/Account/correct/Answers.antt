@@ -28,8 +28,16 @@ overflow_cast-lines g c =
     let f = finding_of c.args.f in
     let m = g.M.Method.meaning c.args.m.now in
     let y = correct_yes a c.args.hold f m c.in_ok-hold.ensures.0 in
-    let d = added a _ (g.T.Tariff.meaning a.tariff) c.in_ok-hold.field-0.hold f m y c.relay_sheet-u.ensures.lines in
+    let d = added a _ (g.T.Tariff.meaning a.tariff) c.in_ok-hold.hold f m y c.relay_sheet-u.ensures.lines in
     omega (arith, d.within, d.most)
+
+pub bills-requires : goal.bills-requires
+bills-requires g c =
+    let a = c.args.self.now in
+    let y = correct_yes a c.args.hold (finding_of c.args.f) (g.M.Method.meaning c.args.m.now) c.in_ok-hold.ensures.0 in
+    let s = a.sheet.within_limit in
+    let l = a.sheet_limit in
+    (y.ordered, omega (arith, y.billed))
 
 pub correct-requires : goal.correct-requires
 correct-requires g c =
@@ -37,7 +45,7 @@ correct-requires g c =
     let f = finding_of c.args.f in
     let m = g.M.Method.meaning c.args.m.now in
     let y = correct_yes a c.args.hold f m c.in_ok-hold.ensures.0 in
-    let d = added a _ (g.T.Tariff.meaning a.tariff) c.in_ok-hold.field-0.hold f m y c.relay_sheet-u.ensures.lines in
+    let d = added a _ (g.T.Tariff.meaning a.tariff) c.in_ok-hold.hold f m y c.relay_sheet-u.ensures.lines in
     let n = a.counted in
     let filled = d.filled in
     let u = c.relay_sheet-u.ensures.small in
@@ -53,7 +61,7 @@ invariant_of-self g c =
     let y = correct_yes a c.args.hold f m c.in_ok-hold.ensures.0 in
     let w = c.relay_sheet-u.ensures.lines in
     let r = c.relay_sheet-u.ensures.rows in
-    let d = added a _ (g.T.Tariff.meaning a.tariff) c.in_ok-hold.field-0.hold f m y w in
+    let d = added a _ (g.T.Tariff.meaning a.tariff) c.in_ok-hold.hold f m y w in
     let lines = ap (λ (t : Totals). t.lines) c.correct.ensures in
     let n = a.counted in
     record {
@@ -80,5 +88,5 @@ returns g c =
       sheet_past = e.rows.past;
       journal = e.lines;
       sums = c.correct.ensures;
-    }) (correct c.args.hold f m) c.relay_sheet-u.result.0 c.in_ok-hold.ensures.0 (e.sum ∙ ap (λ z. cents_of (posts t f m z 0 0 0 (state_of a).rows)) c.in_ok-hold.ensures.1.0) (corrected_is t (opening_of a) a c.in_ok-hold.field-0.hold c.args.hold f m c.relay_sheet-u.result.0 c.in_ok-hold.field-0.bills.count (c.relay_sheet-u.new.journal.filled - a.journal.filled) c.in_ok-hold.ensures.1.0 e.sum c.in_ok-hold.ensures.1.1) in
+    }) (correct c.args.hold f m) c.relay_sheet-u.result.0 c.in_ok-hold.ensures.0 (e.sum ∙ ap (λ z. cents_of (posts t f m z 0 0 0 (state_of a).rows)) c.in_ok-hold.ensures.1) (corrected_is t (opening_of a) a c.in_ok-hold.hold c.args.hold f m c.relay_sheet-u.result.0 c.bills.result.count (c.relay_sheet-u.new.journal.filled - a.journal.filled) c.in_ok-hold.ensures.1 e.sum c.bills.ensures) in
     record { after = r.0; law = r.1 }
