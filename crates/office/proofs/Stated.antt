@@ -1,5 +1,5 @@
 -- A statement under a tariff is the statement under its number. Assumes nothing.
-use Rattle.std.proofs.Common.{◌≡◌, ℕ, ◌+◌, ◌-◌, Bool, true, List, [], ◌∷◌, ◌++◌, length, replicate, sym, ap, ◌∙◌, subst, arith}
+use Rattle.std.proofs.Common.{◌≡◌, ℕ, ◌+◌, ◌-◌, Bool, true, List, [], ◌∷◌, ◌++◌, length, replicate, Ok, Err, Result, sym, ap, ◌∙◌, subst, arith}
 use Rattle.std.proofs.lemmas.List.{length-append, length-replicate}
 use Rattle.std.proofs.lemmas.Bool.{eq-eqb}
 use Rattle.rules.specs.Subject.{Tariff, Opening}
@@ -9,6 +9,9 @@ use Rattle.rules.proofs.Stands.{account_law}
 use Rattle.tariff.specs.Hotel.{numbered}
 use Rattle.events.specs.Lines.{lines}
 use Rattle.office.specs.Statement.{calls, result_text}
+use Rattle.office.specs.declared.refused.Refused.{Refused}
+use Rattle.office.specs.declared.refused.Refused.TheVariants.{Figures, Page, Text}
+use Rattle.office.specs.Refusals.{number_of, value_of, cleared}
 use Rattle.office.specs.Office.{opened_on, text_asked, is_tariff, asked, page_for, Stated, LawfulPage}
 
 -- an accepted page shows an account that keeps the law
@@ -36,3 +39,9 @@ by_number {t} {text} {before} {left} {number} {value} tariff k day named lawful 
 -- an accepted statement
 pub lawful : {t : Tariff} {o : Opening} {qs : List (ℕ × Bool)} {text before left : List ℕ} {number value : ℕ} → Stated t o qs text before left number value → number ≡ 0 → LawfulPage t o text left
 lawful {t} {o} {qs} {text} {before} {left} {number} s accepted = lawful_page t o text left (length before) number s.page accepted
+
+pub lawful_result : {t : Tariff} {o : Opening} {qs : List (ℕ × Bool)} {text before : List ℕ} (r : Result ℕ Refused) (page : List ℕ) → Stated t o qs text before (cleared r page) (number_of r) (value_of r) → number_of r ≡ 0 → LawfulPage t o text page
+lawful_result (Ok bytes) page s accepted = lawful s accepted
+lawful_result (Err Figures) page s accepted = cc
+lawful_result (Err Page) page s accepted = cc
+lawful_result (Err Text) page s accepted = cc

@@ -1,6 +1,8 @@
 pub mod Pages
 pub mod Faults
 pub mod Texts
+pub mod Fields
 pub mod Statement
 pub mod Served
+pub mod Refusals
 pub mod Office

@@ -3,8 +3,11 @@
 
 pub mod entries;
 pub mod fault;
+pub mod field;
+pub mod kept;
 mod memory;
 pub mod page;
+pub mod refused;
 pub mod serving;
 pub mod statement;
 mod writing;
