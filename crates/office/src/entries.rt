@@ -13,6 +13,7 @@ use figures::money::Money;
 
 impl<'a> Page<'a> {
     /// What a line of the text was answered: `A,layer,number,value`.
+    #[inline(always)]
     pub fn answer(&mut self, outcome: Result<i64, Fault>) -> Result<(), Full>
         ensures { Wrote self.old self.new result (told outcome) }
     {
@@ -31,6 +32,7 @@ impl<'a> Page<'a> {
     }
 
     /// A line of the journal: `J,hold,letter,row,cents`.
+    #[inline(always)]
     pub fn journal(&mut self, line: Line) -> Result<(), Full>
         ensures { Wrote self.old self.new result (journal_line (line_seen line)) }
     {
@@ -46,6 +48,7 @@ impl<'a> Page<'a> {
     }
 
     /// The balance and the amount due: `S,balance,due`.
+    #[inline(always)]
     pub fn sums(&mut self, balance: Money, due: Money) -> Result<(), Full>
         ensures { Wrote self.old self.new result (sums_line balance.0 due.0) }
     {

@@ -2,7 +2,7 @@
 //
 // It is no `fmt::Write`: std says nothing of a writer after an `Err`, so that a page written by `write!` could not
 // promise that 21 is answered only where the result does not fit.
-ghost use Rattle.std.specs.Prelude.{◌≡◌, [], length};
+ghost use Rattle.std.specs.Prelude.{◌≡◌, [], ◌∷◌, length};
 ghost use Rattle.office.specs.Fields.{field_text, line_text};
 ghost use Rattle.office.specs.Pages.{held, Wrote, padded};
 
@@ -22,11 +22,23 @@ impl<'a> Page<'a> {
         Page { bytes, at: 0 }
     }
 
+    #[inline(always)]
+    pub fn push(&mut self, byte: u8) -> Result<(), Full>
+        ensures { Wrote self.old self.new result (byte ∷ []) }
+    {
+        if self.at == self.bytes.len() {
+            return Err(Full);
+        }
+        self.bytes[self.at] = byte;
+        self.at += 1;
+        Ok(())
+    }
+
+    #[inline(always)]
     pub fn text(&mut self, text: &[u8]) -> Result<(), Full>
         ensures { Wrote self.old self.new result text.now }
     {
-        let room = self.bytes.len() - self.at;
-        if text.len() > room {
+        if text.len() > self.bytes.len() - self.at {
             return Err(Full);
         }
         let end = self.at + text.len();
@@ -35,26 +47,28 @@ impl<'a> Page<'a> {
         Ok(())
     }
 
+    #[inline(always)]
     fn field(&mut self, field: Field) -> Result<(), Full>
         ensures { Wrote self.old self.new result (field_text field) }
     {
         match field {
-            Field::Letter(letter) => self.text(&[letter]),
+            Field::Letter(letter) => self.push(letter),
             Field::Figure(figure) => self.text(Buffer::new().format(figure).as_bytes()),
             Field::Cents(amount) => self.text(Buffer::new().format(amount.0).as_bytes()),
         }
     }
 
     /// A line: its letter, each field after a comma, and the line's end.
+    #[inline(always)]
     pub fn line(&mut self, letter: u8, fields: &[Field]) -> Result<(), Full>
         ensures { Wrote self.old self.new result (line_text letter fields.now) }
     {
-        self.text(&[letter])?;
+        self.push(letter)?;
         for field in fields {
-            self.text(b",")?;
+            self.push(b',')?;
             self.field(*field)?;
         }
-        self.text(b"\n")
+        self.push(b'\n')
     }
 
     /// Ends the page: zeros after what was written. The answer is how many bytes were written.
