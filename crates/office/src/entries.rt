@@ -21,14 +21,7 @@ impl<'a> Page<'a> {
             Ok(value) => (Layer::Account, 0, value),
             Err(fault) => (fault.layer(), fault.number(), fault.value() as i64),
         };
-        self.line(
-            b'A',
-            &[
-                layer.into(),
-                Field::Figure(number),
-                Field::Cents(Money(value)),
-            ],
-        )
+        self.line(b'A', &[layer.into(), number.into(), Field::Number(value)])
     }
 
     /// A line of the journal: `J,hold,letter,row,cents`.
@@ -39,7 +32,7 @@ impl<'a> Page<'a> {
         self.line(
             b'J',
             &[
-                Field::Figure(line.hold),
+                line.hold.into(),
                 line.letter.into(),
                 line.row.into(),
                 line.cents.into(),

@@ -1,7 +1,7 @@
 // What stands in a line of a page.
-ghost use Rattle.std.specs.Prelude.{◌≡◌};
+ghost use Rattle.std.specs.Prelude.{◌≡◌, pos};
 ghost use Rattle.figures.specs.View.{letter_of};
-ghost use Rattle.office.specs.declared.field.Field.TheVariants.{Letter as a_letter, Cents as an_amount};
+ghost use Rattle.office.specs.declared.field.Field.TheVariants.{Letter as a_letter, Number};
 ghost use Rattle.office.specs.Texts.{layer_letter, line_letter};
 ghost use Rattle.office.specs.Fields.{row_field};
 
@@ -9,12 +9,11 @@ use crate::fault::Layer;
 use figures::line::Letter;
 use figures::money::Money;
 
-/// A letter, a figure in decimal digits, or a signed amount.
+/// A letter, or a number in decimal digits, with a minus where it is below zero.
 #[derive(Clone, Copy)]
 pub enum Field {
     Letter(u8),
-    Figure(u32),
-    Cents(Money),
+    Number(i64),
 }
 
 impl From<Layer> for Field {
@@ -40,22 +39,30 @@ impl From<Letter> for Field {
     }
 }
 
+impl From<u32> for Field {
+    ghost from_gives = { λ figure field. field ≡ Number (pos figure) };
+
+    fn from(figure: u32) -> Field {
+        Field::Number(figure as i64)
+    }
+}
+
 /// A row's number, or `-` where a line names none.
 impl From<Option<u32>> for Field {
     ghost from_gives = { λ row field. field ≡ row_field row };
 
     fn from(row: Option<u32>) -> Field {
         match row {
-            Some(number) => Field::Figure(number),
+            Some(number) => number.into(),
             None => Field::Letter(b'-'),
         }
     }
 }
 
 impl From<Money> for Field {
-    ghost from_gives = { λ amount field. field ≡ an_amount amount };
+    ghost from_gives = { λ amount field. field ≡ Number amount.0 };
 
     fn from(amount: Money) -> Field {
-        Field::Cents(amount)
+        Field::Number(amount.0)
     }
 }

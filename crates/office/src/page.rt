@@ -38,12 +38,9 @@ impl<'a> Page<'a> {
     pub fn text(&mut self, text: &[u8]) -> Result<(), Full>
         ensures { Wrote self.old self.new result text.now }
     {
-        if text.len() > self.bytes.len() - self.at {
-            return Err(Full);
+        for byte in text {
+            self.push(*byte)?;
         }
-        let end = self.at + text.len();
-        self.bytes[self.at..end].copy_from_slice(text);
-        self.at = end;
         Ok(())
     }
 
@@ -53,8 +50,7 @@ impl<'a> Page<'a> {
     {
         match field {
             Field::Letter(letter) => self.push(letter),
-            Field::Figure(figure) => self.text(Buffer::new().format(figure).as_bytes()),
-            Field::Cents(amount) => self.text(Buffer::new().format(amount.0).as_bytes()),
+            Field::Number(number) => self.text(Buffer::new().format(number).as_bytes()),
         }
     }
 
