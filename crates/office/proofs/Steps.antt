@@ -61,14 +61,6 @@ risen {p} {q} {z} h a = record { lent = a.lent; long = a.long; text = err_kept q
 pub spelled_as : {p q : Page} {r : Result (Unit {0}) Full} {t u : List ℕ} → t ≡ u → Wrote p q r t → Wrote p q r u
 spelled_as {p} {q} {r} is a = subst (Wrote p q r) is a
 
--- the byte at i did not fit
-pub byte_stopped : {p q s : Page} {e : Full} {b : Unit {0}} (xs : List ℕ) (i d : ℕ) → i < length xs → Wrote p q (Ok b) (take i xs) → Wrote q s (Err e) (get_or xs i d ∷ []) → Wrote p s (Err e) xs
-byte_stopped xs i d lt a b =
-    let whole : (take i xs ++ get_or xs i d ∷ []) ++ drop (i + 1) xs ≡ xs =
-    ap (λ l. l ++ drop (i + 1) xs) (sym (take_more xs i d lt)) ∙ take-append-drop (i + 1) xs
-    in
-    spelled_as whole (stopped (drop (i + 1) xs) (a then b))
-
 -- a list written item by item: what stands before the item at i, that item, and what is left
 module _ {A B : Type 0} (f : B → List ℕ) (g : A → B) (xs : List A) (i : ℕ) (d : A) (lt : i < length xs) where
   abbrev pub before : List ℕ

@@ -1,7 +1,6 @@
 pub mod Pages
 pub mod Faults
 pub mod Texts
-pub mod Fields
 pub mod Statement
 pub mod Served
 pub mod Refusals

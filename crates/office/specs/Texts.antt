@@ -1,7 +1,6 @@
--- The lines of a statement's page, as bytes. Assumes nothing.
+-- The lines of a statement's page, as bytes; each ends with byte 10. Byte 44 is a comma, 65 an A. Assumes nothing.
 use Rattle.std.specs.Prelude.{ℕ, List, [], ◌∷◌, ◌++◌, ℤ, pos, Some, None, Ok, Err, codes, decimal, Option, Result}
 use Rattle.std.specs.Fmt.{signed_decimal}
-use Rattle.std.specs.List.{flat_map}
 use Rattle.rules.specs.Law.{Letter, B, C, P, Line}
 use Rattle.office.specs.declared.fault.Fault.{Fault}
 use Rattle.office.specs.declared.fault.Layer.{Layer}
@@ -24,13 +23,9 @@ abbrev pub row_text : Option ℕ → List ℕ
 row_text (Some row) = decimal row
 row_text None = codes "-"
 
--- a line: its letter, each field after a comma (byte 44), and byte 10
-abbrev pub spelled : (letter : ℕ) → List (List ℕ) → List ℕ
-spelled letter fields = letter ∷ flat_map (λ field. 44 ∷ field) fields ++ 10 ∷ []
-
 -- A,layer,number,value
 abbrev pub answer_line : (layer number : ℕ) → (value : ℤ) → List ℕ
-answer_line layer number value = spelled 65 ((layer ∷ []) ∷ decimal number ∷ signed_decimal value ∷ [])
+answer_line layer number value = 65 ∷ 44 ∷ layer ∷ 44 ∷ [] ++ decimal number ++ codes "," ++ signed_decimal value ++ 10 ∷ []
 
 -- the A line of what a line was answered: the account's where it was accepted, with number 0
 abbrev pub told : Result ℤ Fault → List ℕ
@@ -39,8 +34,9 @@ told (Err f) = answer_line (layer_letter (layer_of f)) (fault_number f) (pos (fa
 
 -- J,hold,letter,row,cents
 abbrev pub journal_line : Line → List ℕ
-journal_line l = spelled 74 (decimal l.hold ∷ (line_letter l.letter ∷ []) ∷ row_text l.row ∷ signed_decimal l.cents ∷ [])
+journal_line l =
+    codes "J," ++ decimal l.hold ++ 44 ∷ line_letter l.letter ∷ 44 ∷ [] ++ row_text l.row ++ codes "," ++ signed_decimal l.cents ++ 10 ∷ []
 
 -- S,balance,due
 abbrev pub sums_line : (balance due : ℤ) → List ℕ
-sums_line balance due = spelled 83 (signed_decimal balance ∷ signed_decimal due ∷ [])
+sums_line balance due = codes "S," ++ signed_decimal balance ++ codes "," ++ signed_decimal due ++ 10 ∷ []

@@ -1,50 +1,89 @@
 // The lines of a statement's page.
 ghost use Rattle.std.specs.Prelude.{◌≡◌};
-ghost use Rattle.figures.specs.View.{line_seen};
+ghost use Rattle.figures.specs.View.{letter_of, line_seen};
 ghost use Rattle.office.specs.Pages.{Wrote};
-ghost use Rattle.office.specs.Texts.{told, journal_line, sums_line};
+ghost use Rattle.office.specs.Texts.{layer_letter, line_letter, row_text, answer_line, told, journal_line, sums_line};
 
 use crate::fault::{Fault, Layer};
-use crate::field::Field;
 use crate::kept::Page;
 use crate::page::Full;
-use figures::line::Line;
+use figures::line::{Letter, Line};
 use figures::money::Money;
 
+impl From<Layer> for u8 {
+    ghost from_gives = { λ layer letter. letter ≡ layer_letter layer };
+
+    fn from(layer: Layer) -> u8 {
+        match layer {
+            Layer::Reader => b'r',
+            Layer::Account => b'a',
+        }
+    }
+}
+
+/// The letter of a journal line.
+fn letter(letter: Letter) -> u8
+    ensures { result ≡ line_letter (letter_of letter) }
+{
+    match letter {
+        Letter::Bill => b'B',
+        Letter::Correction => b'C',
+        Letter::Payment => b'P',
+    }
+}
+
 impl<'a> Page<'a> {
+    fn answer_line(&mut self, layer: Layer, number: u32, value: i64) -> Result<(), Full>
+        ensures { Wrote self.old self.new result (answer_line (layer_letter layer) number value) }
+    {
+        self.text(&[b'A', b',', layer.into(), b','])?;
+        self.figure(number as u64)?;
+        self.push(b',')?;
+        self.cents(Money(value))?;
+        self.push(b'\n')
+    }
+
     /// What a line of the text was answered: `A,layer,number,value`.
-    #[inline(always)]
     pub fn answer(&mut self, outcome: Result<i64, Fault>) -> Result<(), Full>
         ensures { Wrote self.old self.new result (told outcome) }
     {
-        let (layer, number, value) = match outcome {
-            Ok(value) => (Layer::Account, 0, value),
-            Err(fault) => (fault.layer(), fault.number(), fault.value() as i64),
-        };
-        self.line(b'A', &[layer.into(), number.into(), Field::Number(value)])
+        match outcome {
+            Ok(value) => self.answer_line(Layer::Account, 0, value),
+            Err(fault) => self.answer_line(fault.layer(), fault.number(), fault.value() as i64),
+        }
+    }
+
+    /// A row's number, or `-` where the line names none.
+    fn row(&mut self, row: Option<u32>) -> Result<(), Full>
+        ensures { Wrote self.old self.new result (row_text row) }
+    {
+        match row {
+            Some(number) => self.figure(number as u64),
+            None => self.push(b'-'),
+        }
     }
 
     /// A line of the journal: `J,hold,letter,row,cents`.
-    #[inline(always)]
     pub fn journal(&mut self, line: Line) -> Result<(), Full>
         ensures { Wrote self.old self.new result (journal_line (line_seen line)) }
     {
-        self.line(
-            b'J',
-            &[
-                line.hold.into(),
-                line.letter.into(),
-                line.row.into(),
-                line.cents.into(),
-            ],
-        )
+        self.text(b"J,")?;
+        self.figure(line.hold as u64)?;
+        self.text(&[b',', letter(line.letter), b','])?;
+        self.row(line.row)?;
+        self.push(b',')?;
+        self.cents(line.cents)?;
+        self.push(b'\n')
     }
 
     /// The balance and the amount due: `S,balance,due`.
-    #[inline(always)]
     pub fn sums(&mut self, balance: Money, due: Money) -> Result<(), Full>
         ensures { Wrote self.old self.new result (sums_line balance.0 due.0) }
     {
-        self.line(b'S', &[balance.into(), due.into()])
+        self.text(b"S,")?;
+        self.cents(balance)?;
+        self.push(b',')?;
+        self.cents(due)?;
+        self.push(b'\n')
     }
 }

@@ -3,7 +3,6 @@
 
 pub mod entries;
 pub mod fault;
-pub mod field;
 pub mod kept;
 mod memory;
 pub mod page;

@@ -2,12 +2,12 @@
 //
 // It is no `fmt::Write`: std says nothing of a writer after an `Err`, so that a page written by `write!` could not
 // promise that 21 is answered only where the result does not fit.
-ghost use Rattle.std.specs.Prelude.{◌≡◌, [], ◌∷◌, length};
-ghost use Rattle.office.specs.Fields.{field_text, line_text};
+ghost use Rattle.std.specs.Prelude.{◌≡◌, [], ◌∷◌, length, decimal};
+ghost use Rattle.std.specs.Fmt.{signed_decimal};
 ghost use Rattle.office.specs.Pages.{held, Wrote, padded};
 
-use crate::field::Field;
 use crate::kept::Page;
+use figures::money::Money;
 use itoa::Buffer;
 
 /// What was to be written does not fit the page.
@@ -22,7 +22,6 @@ impl<'a> Page<'a> {
         Page { bytes, at: 0 }
     }
 
-    #[inline(always)]
     pub fn push(&mut self, byte: u8) -> Result<(), Full>
         ensures { Wrote self.old self.new result (byte ∷ []) }
     {
@@ -34,37 +33,30 @@ impl<'a> Page<'a> {
         Ok(())
     }
 
-    #[inline(always)]
     pub fn text(&mut self, text: &[u8]) -> Result<(), Full>
         ensures { Wrote self.old self.new result text.now }
     {
-        for byte in text {
-            self.push(*byte)?;
+        if text.len() > self.bytes.len() - self.at {
+            return Err(Full);
         }
+        let end = self.at + text.len();
+        self.bytes[self.at..end].copy_from_slice(text);
+        self.at = end;
         Ok(())
     }
 
-    #[inline(always)]
-    fn field(&mut self, field: Field) -> Result<(), Full>
-        ensures { Wrote self.old self.new result (field_text field) }
+    /// A figure in decimal digits.
+    pub fn figure(&mut self, n: u64) -> Result<(), Full>
+        ensures { Wrote self.old self.new result (decimal n) }
     {
-        match field {
-            Field::Letter(letter) => self.push(letter),
-            Field::Number(number) => self.text(Buffer::new().format(number).as_bytes()),
-        }
+        self.text(Buffer::new().format(n).as_bytes())
     }
 
-    /// A line: its letter, each field after a comma, and the line's end.
-    #[inline(always)]
-    pub fn line(&mut self, letter: u8, fields: &[Field]) -> Result<(), Full>
-        ensures { Wrote self.old self.new result (line_text letter fields.now) }
+    /// A signed amount, with a minus where it is below zero.
+    pub fn cents(&mut self, amount: Money) -> Result<(), Full>
+        ensures { Wrote self.old self.new result (signed_decimal amount.0) }
     {
-        self.push(letter)?;
-        for field in fields {
-            self.push(b',')?;
-            self.field(*field)?;
-        }
-        self.push(b'\n')
+        self.text(Buffer::new().format(amount.0).as_bytes())
     }
 
     /// Ends the page: zeros after what was written. The answer is how many bytes were written.

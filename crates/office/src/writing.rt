@@ -14,7 +14,6 @@ use events::lines::Reader;
 use tariff::tariff::Tariff;
 
 /// Writes every line of the journal, and the sums.
-#[inline(always)]
 fn show<T>(account: &Account<T>, page: &mut Page) -> Result<(), Full>
     ensures { Wrote page.old page.new result (shown_text (shown (state_of account.now))) }
 {
