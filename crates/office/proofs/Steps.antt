@@ -82,28 +82,3 @@ module _ {A B : Type 0} (f : B → List ℕ) (g : A → B) (xs : List A) (i : �
   pub item_stopped : {p q s : Page} {e : Full} {b : Unit {0}} (u : List ℕ) → Wrote p q (Ok b) before → Wrote q s (Err e) (f (g (get_or xs i d))) → Wrote p s (Err e) (flat_map f (map g xs) ++ u)
   item_stopped u a b = spelled_as (sym (append_assoc (before ++ f (g (get_or xs i d))) left u) ∙ ap (λ l. l ++ u) parted) (stopped (left ++ u) (a then b))
 
--- all that a page of n bytes was to hold
-whole_none : (n : ℕ) (t : List ℕ) (e : Full) → None ≡ put n (Some []) t → Err e ≡ fitted n t
-whole_none n t e none =
-    ⊎_elim
-    (λ (over : n < length t). simp (lt-leb _ _ over))
-    (λ (fits : length t ≤ n). let bad : None ≡ Some t = none ∙ simp (zero-add, le-leb _ _ fits) in cc)
-    (cases_lt n (length t))
-
-whole_some : (n : ℕ) (s t : List ℕ) → Some s ≡ put n (Some []) t → (length t ≤ n) × (s ≡ t)
-whole_some n s t some =
-    ⊎_elim
-    (λ (over : n < length t). let bad : Some s ≡ None = some ∙ simp (zero-add, lt-leb _ _ over) in cc)
-    (λ (fits : length t ≤ n). let is : Some s ≡ Some t = some ∙ simp (zero-add, le-leb _ _ fits) in (fits, search is))
-    (cases_lt n (length t))
-
-from_empty : (p : Page) (t : List ℕ) (n : ℕ) (o : Option (List ℕ)) → held p ≡ [] → length p.bytes.now ≡ n → o ≡ put (length p.bytes.now) (Some (held p)) t → o ≡ put n (Some []) t
-from_empty p t n o empty long e = e ∙ ap (λ m. put m (Some (held p)) t) long ∙ ap (λ s. put n (Some s) t) empty
-
-pub no_room : {p q : Page} {z : Result (Unit {0}) Full} {t : List ℕ} {n : ℕ} (e : Full) → held p ≡ [] → length p.bytes.now ≡ n → IsErr z → Wrote p q z t → Err e ≡ fitted n t
-no_room {p} {q} {z} {t} {n} e empty long h w = whole_none n t e (from_empty p t n None empty long (sym (err_kept q z h) ∙ w.text))
-
-pub room : {p q : Page} {d : Unit {0}} {t : List ℕ} {n : ℕ} → held p ≡ [] → length p.bytes.now ≡ n → Wrote p q (Ok d) t → (Ok (length (held q)) ≡ fitted n t) × (padded (length q.bytes.now) (held q) ≡ padded n t)
-room {p} {q} {d} {t} {n} empty long w =
-    let is = whole_some n (held q) t (from_empty p t n (Some (held q)) empty long w.text) in
-    (simp (is.1, le-leb _ _ is.0), ap (λ m. padded m (held q)) (w.long ∙ long) ∙ ap (padded n) is.1)

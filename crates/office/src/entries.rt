@@ -21,7 +21,7 @@ impl From<Layer> for u8 {
     }
 }
 
-/// The letter of a journal line.
+/// The letter of a journal line. No `From`: both types are of other crates.
 fn letter(letter: Letter) -> u8
     ensures { result ≡ line_letter (letter_of letter) }
 {
@@ -33,6 +33,7 @@ fn letter(letter: Letter) -> u8
 }
 
 impl<'a> Page<'a> {
+    #[inline(always)]
     fn answer_line(&mut self, layer: Layer, number: u32, value: i64) -> Result<(), Full>
         ensures { Wrote self.old self.new result (answer_line (layer_letter layer) number value) }
     {
@@ -44,6 +45,7 @@ impl<'a> Page<'a> {
     }
 
     /// What a line of the text was answered: `A,layer,number,value`.
+    #[inline(always)]
     pub fn answer(&mut self, outcome: Result<i64, Fault>) -> Result<(), Full>
         ensures { Wrote self.old self.new result (told outcome) }
     {

@@ -1,7 +1,8 @@
 // What is written on a page.
 //
 // It is no `fmt::Write`: std says nothing of a writer after an `Err`, so that a page written by `write!` could not
-// promise that 21 is answered only where the result does not fit.
+// promise that 21 is answered only where the result does not fit. The writes are inlined: called, they make a
+// statement of many short lines a sixth slower.
 ghost use Rattle.std.specs.Prelude.{◌≡◌, [], ◌∷◌, length, decimal};
 ghost use Rattle.std.specs.Fmt.{signed_decimal};
 ghost use Rattle.office.specs.Pages.{held, Wrote, padded};
@@ -22,6 +23,7 @@ impl<'a> Page<'a> {
         Page { bytes, at: 0 }
     }
 
+    #[inline(always)]
     pub fn push(&mut self, byte: u8) -> Result<(), Full>
         ensures { Wrote self.old self.new result (byte ∷ []) }
     {
@@ -33,6 +35,7 @@ impl<'a> Page<'a> {
         Ok(())
     }
 
+    #[inline(always)]
     pub fn text(&mut self, text: &[u8]) -> Result<(), Full>
         ensures { Wrote self.old self.new result text.now }
     {
@@ -46,6 +49,7 @@ impl<'a> Page<'a> {
     }
 
     /// A figure in decimal digits.
+    #[inline(always)]
     pub fn figure(&mut self, n: u64) -> Result<(), Full>
         ensures { Wrote self.old self.new result (decimal n) }
     {
@@ -53,6 +57,7 @@ impl<'a> Page<'a> {
     }
 
     /// A signed amount, with a minus where it is below zero.
+    #[inline(always)]
     pub fn cents(&mut self, amount: Money) -> Result<(), Full>
         ensures { Wrote self.old self.new result (signed_decimal amount.0) }
     {
