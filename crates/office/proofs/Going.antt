@@ -2,7 +2,7 @@
 use Rattle.std.proofs.Common.{◌≡◌, ℕ, List, [], ◌∷◌, ◌++◌, ℤ, Ok, Err, Result, sym, refl, ap, ◌∙◌}
 use Rattle.std.proofs.lemmas.List.{append-nil, append_assoc}
 use Rattle.rules.specs.Subject.{Tariff, Call, Opening}
-use Rattle.rules.specs.Machine.{State, after, shown}
+use Rattle.rules.specs.Machine.{State, after}
 use Rattle.account.specs.declared.account.Account.{Account}
 use Rattle.account.specs.State.{state_of, opening_of}
 use Rattle.events.specs.declared.event.Event.{Event}
@@ -10,12 +10,11 @@ use Rattle.events.specs.declared.fault.ReaderFault.{ReaderFault}
 use Rattle.events.specs.Events.{event_of}
 use Rattle.office.specs.declared.fault.Fault.{Fault}
 use Rattle.office.specs.declared.kept.Page.{Page}
-use Rattle.office.specs.declared.page.Full.{Full}
 use Rattle.office.specs.Pages.{Wrote}
 use Rattle.office.specs.Texts.{told}
-use Rattle.office.specs.Statement.{heard, calls, reply, replies, shown_text, result_text}
+use Rattle.office.specs.Statement.{heard, calls, reply, replies}
 use Rattle.office.specs.Served.{moved, Served, Ran}
-use Rattle.office.proofs.Steps.{◌then◌, wrote_none, stopped, spelled_as}
+use Rattle.office.proofs.Steps.{◌then◌, wrote_none}
 
 -- the state after a line is that after its call
 moved_after : (t : Tariff) (o : Opening) (h : List Call) (e : Result Event ReaderFault) → moved t o (after t o h) e ≡ after t o (heard h e)
@@ -84,10 +83,6 @@ module _ {T : Type 0} (mean : T → Tariff) (a : Account T) (p : Page) (all : Li
           heard_all = ap (calls g.made) (sym is) ∙ g.heard_all;
         }
 
-    -- its answer did not fit
-    pub going_stopped : {e : Full} → Wrote q r (Err e) (told z) → Wrote p r (Err e) (replies (mean a.tariff) (opening_of a) [] all)
-    going_stopped w = spelled_as line_left (stopped (replies (mean a.tariff) (opening_of a) (heard g.made (event_of l)) rest) (g.page then w))
-
   pub going_state : (b : Account T) (q : Page) (left : List (List ℕ)) → Going mean a b p q all left → left ≡ [] → Ran mean a b all
   going_state b q left g is = record {
     state = g.state ∙ ap (after (mean a.tariff) (opening_of a)) (sym (ap (calls g.made) is) ∙ g.heard_all);
@@ -101,8 +96,3 @@ module _ {T : Type 0} (mean : T → Tariff) (a : Account T) (p : Page) (all : Li
       sym (append-nil g.written) ∙ sym (ap (λ x. g.written ++ replies (mean a.tariff) (opening_of a) g.made x) is) ∙ g.answers
       in
       rw whole at g.page
-
-  -- and then the account
-  pub going_whole : (b : Account T) (q s : Page) (left : List (List ℕ)) (z : Result (Unit {0}) Full) → Going mean a b p q all left → left ≡ [] → Wrote q s z (shown_text (shown (state_of b))) → Wrote p s z (result_text (mean a.tariff) (opening_of a) all)
-  going_whole b q s left z g is w =
-      spelled_as (ap (λ x. replies (mean a.tariff) (opening_of a) [] all ++ shown_text (shown x)) (going_state b q left g is).state) (going_text b q left g is then w)

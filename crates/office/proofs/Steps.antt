@@ -1,5 +1,5 @@
 -- What is written piece by piece.
-use Rattle.std.proofs.Common.{◌≡◌, ℕ, ◌+◌, ◌<◌, ◌≤◌, List, [], ◌∷◌, ◌++◌, map, length, get_or, take, drop, Some, None, Ok, Err, Option, Result, refl, sym, ap, ◌∙◌, subst, ⊎_elim, add_assoc, zero-add, take-append-drop, arith}
+use Rattle.std.proofs.Common.{◌≡◌, ℕ, ◌+◌, ◌<◌, ◌≤◌, List, [], ◌∷◌, ◌++◌, map, length, get_or, take, drop, Some, None, Ok, Err, Option, Result, refl, sym, ap, ◌∙◌, subst, ⊎_elim, add_assoc, take-append-drop, arith}
 use Rattle.std.specs.Prelude.{IsErr}
 use Rattle.std.specs.List.{flat_map}
 use Rattle.std.proofs.lemmas.List.{append-nil, append_assoc, length-append, length-take, map-append, map_push, take_more, flat_map_more}
@@ -7,7 +7,7 @@ use Rattle.std.proofs.lemmas.List.Concat.{flat_map-append}
 use Rattle.std.proofs.lemmas.Bool.{le-leb, lt-leb, cases_lt}
 use Rattle.office.specs.declared.kept.Page.{Page}
 use Rattle.office.specs.declared.page.Full.{Full}
-use Rattle.office.specs.Pages.{held, put, kept, Wrote, fitted, padded}
+use Rattle.office.specs.Pages.{held, put, kept, Wrote}
 
 -- two writes are one
 put_put : (n : ℕ) (o : Option (List ℕ)) (t u : List ℕ) → put n (put n o t) u ≡ put n o (t ++ u)
@@ -81,4 +81,3 @@ module _ {A B : Type 0} (f : B → List ℕ) (g : A → B) (xs : List A) (i : �
   -- the item did not fit
   pub item_stopped : {p q s : Page} {e : Full} {b : Unit {0}} (u : List ℕ) → Wrote p q (Ok b) before → Wrote q s (Err e) (f (g (get_or xs i d))) → Wrote p s (Err e) (flat_map f (map g xs) ++ u)
   item_stopped u a b = spelled_as (sym (append_assoc (before ++ f (g (get_or xs i d))) left u) ∙ ap (λ l. l ++ u) parted) (stopped (left ++ u) (a then b))
-
