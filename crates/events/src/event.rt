@@ -2,7 +2,7 @@
 use figures::reported::{Cents, Reading};
 
 /// Figures stand as they were written, in limits or not: the account asks that.
-#[derive(Clone, Copy, Debug, PartialEq, Eq)]
+#[derive(Clone, Copy)]
 pub enum Event {
     Take {
         moment: u64,
