@@ -46,7 +46,7 @@ no_mark : (b : ℕ) (text : List ℕ) → position_or_len (λ c. eqb c b) text �
 no_mark b text h k d inside = fails_before_first (λ c. eqb c b) text k d (omega arith)
 
 -- the first field of what is left of a line, and the fields after it
-fields_first : (column : ℕ) (line first : List ℕ) (rest : Option (Bor (List ℕ))) → first ≡ before_first (λ b. eqb b 44) line → Behind 44 line rest → placed column (fields line) ≡ (column, first) ∷ fields_from (column + length first + 1) rest
+fields_first : (column : ℕ) (line first : List ℕ) (rest : Option (Bor (List ℕ))) → first ≡ before_first (λ b. eqb b 44) line → Behind 44 line rest → placed column (fields line) ≡ (column, first) ∷ fields_from (column + (length first + 1)) rest
 fields_first column line first (Some rest) is h =
     rw (is, h.1) (ap (placed column) (slice_split_first (λ b. eqb b 44) line 0 h.0))
 fields_first column line first None is h =
@@ -54,12 +54,12 @@ fields_first column line first None is h =
     slice_split_none (λ b. eqb b 44) line (no_mark 44 line h) ∙ ap (λ l. l ∷ []) (sym (take_all _ line (omega arith)) ∙ ap (λ n. take n line) (sym h) ∙ sym is) in
     ap (placed column) one
 
-pub fields_next : (column : ℕ) (left : Option (Bor (List ℕ))) (line : Bor (List ℕ)) (first : List ℕ) (rest : Option (Bor (List ℕ))) → left ≡ Some line → first ≡ before_first (λ b. eqb b 44) line.now → Behind 44 line.now rest → fields_from column left ≡ (column, first) ∷ fields_from (column + length first + 1) rest
+pub fields_next : (column : ℕ) (left : Option (Bor (List ℕ))) (line : Bor (List ℕ)) (first : List ℕ) (rest : Option (Bor (List ℕ))) → left ≡ Some line → first ≡ before_first (λ b. eqb b 44) line.now → Behind 44 line.now rest → fields_from column left ≡ (column, first) ∷ fields_from (column + (length first + 1)) rest
 fields_next column left line first rest some is h = rw some (fields_first column line.now first rest is h)
 
 length-placed : (column : ℕ) (fs : List (List ℕ)) → length (placed column fs) ≡ length fs
 length-placed column [] = refl
-length-placed column (f ∷ fs) = ap (λ n. suc n) (length-placed (column + length f + 1) fs)
+length-placed column (f ∷ fs) = ap (λ n. suc n) (length-placed (column + (length f + 1)) fs)
 
 -- no more fields than bytes and one
 fields_few : (column : ℕ) (line : List ℕ) → length (placed column (fields line)) ≤ length line + 1

@@ -14,4 +14,4 @@ fields line = slice_split (λ c. c == 44) line
 -- fields with the columns at which they begin, the first at the column; a comma takes a column too
 abbrev pub placed : (column : ℕ) → List (List ℕ) → List (ℕ × List ℕ)
 placed column [] = []
-placed column (f ∷ fs) = (column, f) ∷ placed (column + length f + 1) fs
+placed column (f ∷ fs) = (column, f) ∷ placed (column + (length f + 1)) fs

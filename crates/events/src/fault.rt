@@ -12,6 +12,7 @@ pub enum ReaderFault {
     Field(u8),
 }
 
+// `Field` holds its column, so no derive or cast gives these figures, and a `From` would be the same match.
 impl ReaderFault {
     /// The number of the question that was answered no.
     pub fn number(self) -> u32

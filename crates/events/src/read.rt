@@ -8,45 +8,41 @@ use crate::fault::ReaderFault;
 use crate::fields::Fields;
 use figures::reported::{Cents, Kva, Kwh, Reading};
 
-fn read_take(mut fields: Fields<'_>) -> Result<Event, ReaderFault>
+fn read_take(fields: Fields<'_>) -> Result<Event, ReaderFault>
     ensures value { result ≡ event_in t_line (fields_left fields.entry) }
 {
-    fields.expect(2)?;
-    let moment = fields.figure()?;
-    let span = fields.figure()?;
+    let [moment, span] = fields.figures::<2>()?;
     Ok(Event::Take { moment, span })
 }
 
-fn read_hand_back(mut fields: Fields<'_>) -> Result<Event, ReaderFault>
+fn read_hand_back(fields: Fields<'_>) -> Result<Event, ReaderFault>
     ensures value { result ≡ event_in h_line (fields_left fields.entry) }
 {
-    fields.expect(1)?;
-    let hold = fields.figure()?;
+    let [hold] = fields.figures::<1>()?;
     Ok(Event::HandBack { hold })
 }
 
-fn read_bill(mut fields: Fields<'_>) -> Result<Event, ReaderFault>
+fn read_bill(fields: Fields<'_>) -> Result<Event, ReaderFault>
     ensures value { result ≡ event_in b_line (fields_left fields.entry) }
 {
-    fields.expect(5)?;
-    let hold = fields.figure()?;
-    let last = fields.figure()?;
-    let day = Kwh(fields.figure()?);
-    let peak = Kwh(fields.figure()?);
-    let demand = Kva(fields.figure()?);
+    let [hold, last, day, peak, demand] = fields.figures::<5>()?;
+    let reading = Reading {
+        day: Kwh(day),
+        peak: Kwh(peak),
+        demand: Kva(demand),
+    };
     Ok(Event::Bill {
         hold,
         last,
-        reading: Reading { day, peak, demand },
+        reading,
     })
 }
 
-fn read_pay(mut fields: Fields<'_>) -> Result<Event, ReaderFault>
+fn read_pay(fields: Fields<'_>) -> Result<Event, ReaderFault>
     ensures value { result ≡ event_in p_line (fields_left fields.entry) }
 {
-    fields.expect(2)?;
-    let hold = fields.figure()?;
-    let cents = Cents(fields.figure()?);
+    let [hold, cents] = fields.figures::<2>()?;
+    let cents = Cents(cents);
     Ok(Event::Pay { hold, cents })
 }
 

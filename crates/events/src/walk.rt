@@ -9,7 +9,7 @@ ghost use Rattle.events.specs.Fields.{field_of, fields_left};
 use crate::fault::ReaderFault;
 use crate::fields::{Field, Fields};
 use crate::figure::read_figure;
-use crate::lines::split_first_at;
+use crate::lines::split_at_first;
 
 impl<'a> Field<'a> {
     /// The figure in the field.
@@ -33,7 +33,7 @@ impl<'a> Fields<'a> {
     }
 
     /// The figure in the next field.
-    pub(crate) fn figure(&mut self) -> Result<u64, ReaderFault>
+    fn figure(&mut self) -> Result<u64, ReaderFault>
         requires { 0 < length (fields_left self.old) }
         ensures value { figures (fields_left self.old) ≡ with_figure result (figures (fields_left self.new)) }
         ensures after { length (fields_left self.old) ≡ 1 + length (fields_left self.new) }
@@ -44,9 +44,9 @@ impl<'a> Fields<'a> {
         }
     }
 
-    /// Are as many fields left as the letter asks?
+    /// Are as many fields left as the form asks?
     #[tactic(auto, using(crate::proofs::Steps::left_few))]
-    pub(crate) fn expect(&self, asked: usize) -> Result<(), ReaderFault>
+    fn expect(&self, asked: usize) -> Result<(), ReaderFault>
         ensures value { result ≡ (if nat_eq (length (fields_left self.now)) asked then Ok tt else Err Shape) }
     {
         let fields = *self;
@@ -54,6 +54,18 @@ impl<'a> Fields<'a> {
             return Err(ReaderFault::Shape);
         }
         Ok(())
+    }
+
+    /// The figures in the fields that are left, where those are as many as the form asks.
+    pub(crate) fn figures<const N: usize>(mut self) -> Result<[u64; N], ReaderFault>
+        ensures value { result ≡ (if nat_eq (length (fields_left self.entry)) N then figures (fields_left self.entry) else Err Shape) }
+    {
+        self.expect(N)?;
+        let mut figures = [0; N];
+        for figure in figures.iter_mut() {
+            *figure = self.figure()?;
+        }
+        Ok(figures)
     }
 }
 
@@ -65,12 +77,13 @@ impl<'a> Iterator for Fields<'a> {
     ghost remaining = { item_count fields_left };
 
     fn next(&mut self) -> Option<Field<'a>> {
-        let (bytes, rest) = split_first_at(self.rest?, b',');
-        let column = self.column;
-        *self = Fields {
-            rest,
-            column: column + bytes.len() as u8 + 1,
+        let (bytes, rest) = split_at_first(self.rest?, b',');
+        let field = Field {
+            bytes,
+            column: self.column,
         };
-        Some(Field { bytes, column })
+        self.rest = rest;
+        self.column += bytes.len() as u8 + 1;
+        Some(field)
     }
 }
