@@ -1,10 +1,10 @@
 -- One line or field split off a text.
-use Rattle.std.proofs.Common.{◌≡◌, ℕ, suc, ◌+◌, ◌<◌, ◌≤◌, Bool, true, false, cond, eqb, not, List, [], ◌∷◌, length, take, drop, Some, None, Option, MatchOption, Bor, refl, sym, ap, ◌∙◌, one-add, add-one, arith}
-use Rattle.std.specs.Option.{unwrap_or, ForSome}
-use Rattle.std.specs.List.{onto_first, position, position_or_len, before_first, after_first, All}
+use Rattle.std.proofs.Common.{◌≡◌, ℕ, suc, ◌+◌, ◌<◌, Bool, true, false, cond, eqb, not, List, [], ◌∷◌, length, take, drop, Some, None, Option, MatchOption, Bor, refl, sym, ap, ◌∙◌, one-add, add-one, arith}
+use Rattle.std.specs.Option.{unwrap_or}
+use Rattle.std.specs.List.{onto_first, count_by, position, position_or_len, before_first, after_first, All}
 use Rattle.std.proofs.lemmas.Bool.Decides.{nat_tests}
 use Rattle.std.proofs.lemmas.List.{drop_all, take_all}
-use Rattle.std.proofs.lemmas.List.Sums.{count_by-le-length, prefix_len-le-length, fails_before_first}
+use Rattle.std.proofs.lemmas.List.Sums.{prefix_len-le-length, fails_before_first}
 use Rattle.std.proofs.lemmas.List.Splits.{slice_split_none, slice_split_first, length-slice_split}
 use Rattle.events.specs.Fields.{fields_from}
 use Rattle.events.specs.Lines.{lines, fields, placed}
@@ -61,11 +61,6 @@ length-placed : (column : ℕ) (fs : List (List ℕ)) → length (placed column 
 length-placed column [] = refl
 length-placed column (f ∷ fs) = ap (λ n. suc n) (length-placed (column + (length f + 1)) fs)
 
--- no more fields than bytes and one
-fields_few : (column : ℕ) (line : List ℕ) → length (placed column (fields line)) ≤ length line + 1
-fields_few column line =
-    omega (arith, length-placed column (fields line), length-slice_split (λ b. eqb b 44) line, count_by-le-length (λ b. eqb b 44) line)
-
-pub left_few : (column : ℕ) (rest : Option (Bor (List ℕ))) → ForSome rest (λ r. column + length r.now ≤ 143) → length (fields_from column rest) ≤ 144
-left_few column (Some r) h = omega (arith, fields_few column r.now, h r refl)
-left_few column None h = omega arith
+pub some_left : (column : ℕ) (left : Option (Bor (List ℕ))) (line : Bor (List ℕ)) → left ≡ Some line → length (fields_from column left) ≡ count_by (λ b. eqb b 44) line.now + 1
+some_left column left line is =
+    rw is (length-placed column (fields line.now) ∙ length-slice_split (λ b. eqb b 44) line.now)

@@ -10,7 +10,7 @@ pub(crate) struct Field<'a> {
 }
 
 /// Hands out the fields that stand after a line's letter and its comma.
-#[derive(Clone, Copy)]
+#[derive(Drop)]
 pub(crate) struct Fields<'a> {
     /// From the next field to the line's end; none after the last field.
     pub(crate) rest: Option<&'a [u8]>,

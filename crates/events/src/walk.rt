@@ -44,23 +44,24 @@ impl<'a> Fields<'a> {
         }
     }
 
-    /// Are as many fields left as the form asks?
-    #[tactic(auto, using(crate::proofs::Steps::left_few))]
-    fn expect(&self, asked: usize) -> Result<(), ReaderFault>
-        ensures value { result ≡ (if nat_eq (length (fields_left self.now)) asked then Ok tt else Err Shape) }
+    /// How many fields are left: one more than commas.
+    #[tactic(auto, using(crate::proofs::Steps::some_left))]
+    fn count_left(&self) -> usize
+        ensures { result ≡ length (fields_left self.now) }
     {
-        let fields = *self;
-        if fields.count() != asked {
-            return Err(ReaderFault::Shape);
+        match self.rest {
+            Some(rest) => rest.iter().filter(|b| **b == b',').count() + 1,
+            None => 0,
         }
-        Ok(())
     }
 
     /// The figures in the fields that are left, where those are as many as the form asks.
     pub(crate) fn figures<const N: usize>(mut self) -> Result<[u64; N], ReaderFault>
         ensures value { result ≡ (if nat_eq (length (fields_left self.entry)) N then figures (fields_left self.entry) else Err Shape) }
     {
-        self.expect(N)?;
+        if self.count_left() != N {
+            return Err(ReaderFault::Shape);
+        }
         let mut figures = [0; N];
         for figure in figures.iter_mut() {
             *figure = self.figure()?;
