@@ -34,8 +34,7 @@ pub(crate) fn write<T: Tariff>(
     ensures after { OnOk result (page.new ≡ padded (length page.old) (result_text (T.Tariff.meaning account.old.tariff) (opening_of account.old) (lines text.now))) }
 {
     let mut page = Page::new(page);
-    let mut reader = Reader::new(text);
-    while let Some(line) = reader.next() {
+    for line in Reader::new(text) {
         let outcome = serve(account, line);
         page.answer(outcome)?;
     }
