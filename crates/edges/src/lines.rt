@@ -1,6 +1,7 @@
 // Lines of text at their edges, and pages of exactly the right length.
 use events::read_event;
-use office::statement::{Answer, statement};
+use office::refused::Refused;
+use office::statement::statement;
 use std::test::*;
 
 /// The number and the value of the reader's answer.
@@ -55,8 +56,11 @@ fn holds(page: &[u8], expected: &[u8]) -> bool {
         .is_some_and(|rest| rest.iter().all(|b| *b == 0))
 }
 
-fn is(answer: Answer, number: u32, value: u64) -> bool {
-    answer.number == number && answer.value == value
+fn is(answer: Result<usize, Refused>, number: u32, value: usize) -> bool {
+    match answer {
+        Ok(bytes) => number == 0 && bytes == value,
+        Err(refused) => number == refused.number() && value == 0,
+    }
 }
 
 #[test]

@@ -1,20 +1,16 @@
 -- A line by its first two bytes, and by its fields.
-use Rattle.std.proofs.Common.{◌≡◌, ℕ, ◌-◌, ◌≤◌, Bool, true, false, cond, eqb, List, [], ◌∷◌, length, get_or, take, drop, Some, None, Err, Result, sym, refl, ap, ◌∙◌, arith, le-ltb, eq-eqb, eqb-true}
+use Rattle.std.proofs.Common.{◌≡◌, ℕ, ◌-◌, ◌≤◌, Bool, true, false, cond, eqb, ltb, List, [], ◌∷◌, length, get_or, take, drop, Some, None, Option, Err, Result, sym, refl, ap, ◌∙◌, arith, le-ltb, eq-eqb, eqb-true}
+use Rattle.std.specs.List.{onto_first}
 use Rattle.std.proofs.lemmas.List.{take_rest}
 use Rattle.events.specs.declared.event.Event.{Event}
 use Rattle.events.specs.declared.fault.ReaderFault.{ReaderFault}
 use Rattle.events.specs.declared.fault.ReaderFault.TheVariants.{Shape}
-use Rattle.events.specs.Lines.{onto, fields}
-use Rattle.events.specs.Events.{Form, t_line, h_line, b_line, p_line, letter_of, event_in, event_with, event_from}
-use Rattle.events.specs.Walks.{begins}
+use Rattle.events.specs.Lines.{fields, placed}
+use Rattle.events.specs.Events.{Form, t_line, h_line, b_line, p_line, letter_of, event_in, event_with, event_from, event_of}
 
--- a line of this letter
-pub opened : (xs : List ℕ) (c : ℕ) → 2 ≤ length xs → get_or xs 0 0 ≡ c → get_or xs 1 0 ≡ 44 → begins xs ≡ letter_of c
-opened xs c long first comma = simp (le-ltb (length xs) 2 long, eq-eqb _ _ comma, first)
-
-pub chosen : (xs : List ℕ) (c : ℕ) (k : Form) (r : Result Event ReaderFault) → 2 ≤ length xs → get_or xs 0 0 ≡ c → get_or xs 1 0 ≡ 44 → letter_of c ≡ Some k → r ≡ event_in k (fields (take (length xs - 2) (drop 2 xs))) → r ≡ event_with (begins xs) (fields (drop 2 xs))
-chosen xs c k r long first comma is e =
-    e ∙ ap (λ l. event_in k (fields l)) (take_rest xs 2) ∙ sym (ap (λ o. event_with o (fields (drop 2 xs))) (opened xs c long first comma ∙ is))
+-- the form of a line that begins with a letter and a comma
+abbrev pub begins : List ℕ → Option Form
+begins xs = cond (ltb (length xs) 2) None (cond (eqb (get_or xs 1 0) 44) (letter_of (get_or xs 0 0)) None)
 
 no_fields : (k : Form) → event_in k [] ≡ Err Shape
 no_fields t_line = refl
@@ -23,8 +19,8 @@ no_fields b_line = refl
 no_fields p_line = refl
 
 -- b and e: the first byte is a comma, and the second
-two_bytes : (c d : ℕ) (fs : List (List ℕ)) (b e : Bool) → (b ≡ true → c ≡ 44) → event_from (cond b ([] ∷ cond e ([] ∷ fs) (onto d fs)) (onto c (cond e ([] ∷ fs) (onto d fs)))) ≡ event_with (cond e (letter_of c) None) fs
-two_bytes c d fs true true h = sym (ap (λ n. event_with (letter_of n) fs) (h refl))
+two_bytes : (c d : ℕ) (fs : List (List ℕ)) (b e : Bool) → (b ≡ true → c ≡ 44) → event_from (cond b ([] ∷ cond e ([] ∷ fs) (onto_first d fs)) (onto_first c (cond e ([] ∷ fs) (onto_first d fs)))) ≡ event_with (cond e (letter_of c) None) (placed 3 fs)
+two_bytes c d fs true true h = sym (ap (λ n. event_with (letter_of n) (placed 3 fs)) (h refl))
 two_bytes c d fs true false h = refl
 two_bytes c d fs false true h = refl
 two_bytes c d [] false false h = refl
@@ -34,8 +30,18 @@ one_byte : (c : ℕ) (b : Bool) → event_from (cond b ([] ∷ [] ∷ []) ((c �
 one_byte c true = refl
 one_byte c false = elim (letter_of c) as (λ o. event_with o [] ≡ Err Shape) [ Some k ↦ no_fields k | None ↦ refl ]
 
-pub by_fields : (xs : List ℕ) → event_from (fields xs) ≡ event_with (begins xs) (fields (drop 2 xs))
+pub by_fields : (xs : List ℕ) → event_from (fields xs) ≡ event_with (begins xs) (placed 3 (fields (drop 2 xs)))
 by_fields [] = refl
 by_fields (c ∷ []) = one_byte c (eqb c 44)
 by_fields (c ∷ d ∷ xs) =
     two_bytes c d (fields xs) (eqb c 44) (eqb d 44) (eqb-true c 44) ∙ simp (le-ltb (length (c ∷ d ∷ xs)) 2 (omega arith))
+
+-- a short line of this letter, and of none
+pub chosen : (xs : List ℕ) (c : ℕ) (k : Form) (r : Result Event ReaderFault) → length xs ≤ 140 → 2 ≤ length xs → get_or xs 0 0 ≡ c → get_or xs 1 0 ≡ 44 → letter_of c ≡ Some k → r ≡ event_in k (placed 3 (fields (take (length xs - 2) (drop 2 xs)))) → r ≡ event_of xs
+chosen xs c k r short long first comma is e =
+    let b : begins xs ≡ Some k = simp (le-ltb (length xs) 2 long, eq-eqb _ _ comma, first) is in
+    let f : event_from (fields xs) ≡ event_in k (placed 3 (fields (drop 2 xs))) = by_fields xs ∙ ap (λ o. event_with o (placed 3 (fields (drop 2 xs)))) b in
+    e ∙ ap (λ l. event_in k (placed 3 (fields l))) (take_rest xs 2) ∙ sym f ∙ sym (simp (le-ltb 140 (length xs) short))
+
+pub unchosen : (xs : List ℕ) → length xs ≤ 140 → begins xs ≡ None → Err Shape ≡ event_of xs
+unchosen xs short is = sym (simp (le-ltb 140 (length xs) short) (by_fields xs ∙ ap (λ o. event_with o (placed 3 (fields (drop 2 xs)))) is))

@@ -1,87 +1,66 @@
 -- One line or field split off a text.
-use Rattle.std.proofs.Common.{◌≡◌, ℕ, suc, ◌+◌, ◌-◌, ◌<◌, ◌≤◌, true, false, cond, eqb, leb, List, [], ◌∷◌, length, get_or, take, drop, sym, refl, ap, ◌∙◌, arith, eq-eqb, ne_eqb, le-leb}
-use Rattle.std.proofs.lemmas.List.{at_drop_more, at_drop_all, length-drop, drop-drop, drop_all}
-use Rattle.events.specs.Lines.{onto, lines, fields}
-use Rattle.events.specs.Walks.{stop, pending}
+use Rattle.std.proofs.Common.{◌≡◌, ℕ, suc, ◌+◌, ◌<◌, Bool, true, false, cond, eqb, not, List, [], ◌∷◌, length, take, drop, Some, None, Option, MatchOption, Bor, refl, sym, ap, ◌∙◌, one-add, add-one, arith}
+use Rattle.std.specs.Option.{unwrap_or}
+use Rattle.std.specs.List.{onto_first, count_by, position, position_or_len, before_first, after_first, All}
+use Rattle.std.proofs.lemmas.Bool.Decides.{nat_tests}
+use Rattle.std.proofs.lemmas.List.{drop_all, take_all}
+use Rattle.std.proofs.lemmas.List.Sums.{prefix_len-le-length, fails_before_first}
+use Rattle.std.proofs.lemmas.List.Splits.{slice_split_none, slice_split_first, length-slice_split}
+use Rattle.events.specs.Fields.{fields_from}
+use Rattle.events.specs.Lines.{lines, fields, placed}
 
-pub stop_within : (b : ℕ) (xs : List ℕ) → stop b xs ≤ length xs
-stop_within b [] = omega arith
-stop_within b (c ∷ cs) =
-    let h = stop_within b cs in
-    elim (eqb c b) as (λ v. cond v 0 (suc (stop b cs)) ≤ suc (length cs)) [ true ↦ omega arith | false ↦ omega arith ]
+-- where the first byte that passes stands
+pub first_some : (p : ℕ → Bool) (xs : List ℕ) (i : ℕ) → position p xs ≡ Some i → (i ≡ position_or_len p xs) × (i < length xs)
+first_some p xs i is = grind (arith, nat_tests)
 
--- the first line of a text that has one, and the rest
-pub lines_step : (xs : List ℕ) → 0 < length xs → lines xs ≡ take (stop 10 xs) xs ∷ lines (drop (suc (stop 10 xs)) xs)
-lines_step [] h = absurd (omega arith)
-lines_step (c ∷ []) h =
-    elim (eqb c 10) as (λ v. cond v ([] ∷ []) (onto c []) ≡ take (cond v 0 1) (c ∷ []) ∷ lines (drop (suc (cond v 0 1)) (c ∷ []))) [ true ↦ refl | false ↦ refl ]
-lines_step (c ∷ d ∷ cs) h =
-    let ih = lines_step (d ∷ cs) (omega arith) in
-    elim (eqb c 10) as (λ v. cond v ([] ∷ lines (d ∷ cs)) (onto c (lines (d ∷ cs))) ≡ take (cond v 0 (suc (stop 10 (d ∷ cs)))) (c ∷ d ∷ cs) ∷ lines (drop (suc (cond v 0 (suc (stop 10 (d ∷ cs))))) (c ∷ d ∷ cs))) [ true ↦ refl | false ↦ ap (onto c) ih ]
+pub first_none : (p : ℕ → Bool) (xs : List ℕ) → position p xs ≡ None → position_or_len p xs ≡ length xs
+first_none p xs is = let h = prefix_len-le-length (λ x. not (p x)) xs in grind (arith, nat_tests)
 
--- a byte other than b is passed
-pub stop_past : (b : ℕ) (xs : List ℕ) (i : ℕ) → i < length xs → (get_or xs i 0 ≡ b → ⊥) → stop b (drop i xs) ≡ suc (stop b (drop (i + 1) xs))
-stop_past b xs i h other =
-    let e : stop b (drop i xs) ≡ cond (eqb (get_or xs i 0) b) 0 (suc (stop b (drop (i + 1) xs))) = at_drop_more (stop b) xs i 0 h in
-    e ∙ simp (ne_eqb _ _ other)
+-- the rest of a text behind the first b, where there is one
+abbrev pub Behind : ℕ → List ℕ → Option (Bor (List ℕ)) → Type 0
+Behind b text rest = MatchOption rest
+    (position_or_len (λ c. eqb c b) text ≡ length text)
+    (λ r. (position_or_len (λ c. eqb c b) text < length text) × (r.now ≡ after_first (λ c. eqb c b) text))
 
-pub stop_here : (b : ℕ) (xs : List ℕ) (i : ℕ) → i < length xs → get_or xs i 0 ≡ b → stop b (drop i xs) ≡ 0
-stop_here b xs i h is =
-    let e : stop b (drop i xs) ≡ cond (eqb (get_or xs i 0) b) 0 (suc (stop b (drop (i + 1) xs))) = at_drop_more (stop b) xs i 0 h in
-    e ∙ simp (eq-eqb _ _ is)
+onto_line : (c : ℕ) (text : List ℕ) (n : ℕ) → lines text ≡ take n text ∷ lines (drop (n + 1) text) → onto_first c (lines text) ≡ take (1 + n) (c ∷ text) ∷ lines (drop (1 + n + 1) (c ∷ text))
+onto_line c text n e = simp (one-add, add-one) (ap (onto_first c) (simp add-one at e))
 
-pub stop_end : (b : ℕ) (xs : List ℕ) (i : ℕ) → length xs ≤ i → stop b (drop i xs) ≡ 0
-stop_end b xs i h = at_drop_all (stop b) xs i h
+-- the first line of a text that has one, and the lines after it
+lines_first : (text : List ℕ) → 0 < length text → lines text ≡ before_first (λ b. eqb b 10) text ∷ lines (after_first (λ b. eqb b 10) text)
+lines_first [] h = absurd (omega arith)
+lines_first (c ∷ []) h =
+    elim (eqb c 10) as (λ v. cond v ([] ∷ []) (onto_first c []) ≡ take (cond (not v) 1 0) (c ∷ []) ∷ lines (drop (cond (not v) 1 0 + 1) (c ∷ []))) [ true ↦ refl | false ↦ refl ]
+lines_first (c ∷ d ∷ cs) h =
+    let ih = lines_first (d ∷ cs) (omega arith) in
+    let n : ℕ = position_or_len (λ b. eqb b 10) (d ∷ cs) in
+    elim (eqb c 10) as (λ v. cond v ([] ∷ lines (d ∷ cs)) (onto_first c (lines (d ∷ cs))) ≡ take (cond (not v) (1 + n) 0) (c ∷ d ∷ cs) ∷ lines (drop (cond (not v) (1 + n) 0 + 1) (c ∷ d ∷ cs))) [ true ↦ refl | false ↦ onto_line c (d ∷ cs) n ih ]
 
-pub lines_none : (xs : List ℕ) (i : ℕ) → length xs ≤ i → lines (drop i xs) ≡ []
-lines_none xs i h = at_drop_all lines xs i h
+behind_all : (b : ℕ) (text : List ℕ) (rest : Option (Bor (List ℕ))) (end : Bor (List ℕ)) → end.now ≡ [] → Behind b text rest → (unwrap_or rest end).now ≡ after_first (λ c. eqb c b) text
+behind_all b text (Some rest) end e h = h.1
+behind_all b text None end e h = e ∙ sym (drop_all _ text (omega arith))
 
--- the line from i up to its end e, and what is left
-pub lines_more : (xs : List ℕ) (i e : ℕ) → i < length xs → e ≡ i + stop 10 (drop i xs) → lines (drop i xs) ≡ take (e - i) (drop i xs) ∷ lines (drop (e + 1) xs)
-lines_more xs i e h is =
-    let some : 0 < length (drop i xs) = simp length-drop (omega arith) in
-    let n : stop 10 (drop i xs) ≡ e - i = omega arith in
-    let there : i + suc (stop 10 (drop i xs)) ≡ e + 1 = omega arith in
-    lines_step (drop i xs) some ∙ simp drop-drop (simp there (simp n))
+pub lines_next : (text : List ℕ) (rest : Option (Bor (List ℕ))) (end : Bor (List ℕ)) → 0 < length text → end.now ≡ [] → Behind 10 text rest → lines text ≡ before_first (λ b. eqb b 10) text ∷ lines (unwrap_or rest end).now
+lines_next text rest end some e h = rw (behind_all 10 text rest end e h) (lines_first text some)
 
-pub lines_last : (xs : List ℕ) (i e : ℕ) → i < length xs → e ≡ i + stop 10 (drop i xs) → length xs ≤ e → lines (drop i xs) ≡ take (e - i) (drop i xs) ∷ lines (drop e xs)
-lines_last xs i e h is end =
-    let past : drop (e + 1) xs ≡ drop e xs = drop_all (e + 1) xs (omega arith) ∙ sym (drop_all e xs end) in
-    lines_more xs i e h is ∙ simp past
+no_mark : (b : ℕ) (text : List ℕ) → position_or_len (λ c. eqb c b) text ≡ length text → All (λ c. eqb c b ≡ false) text
+no_mark b text h k d inside = fails_before_first (λ c. eqb c b) text k d (omega arith)
 
-leb_suc : (a b : ℕ) → leb (suc a) (suc b) ≡ leb a b
-leb_suc a b = grind arith
+-- the first field of what is left of a line, and the fields after it
+fields_first : (column : ℕ) (line first : List ℕ) (rest : Option (Bor (List ℕ))) → first ≡ before_first (λ b. eqb b 44) line → Behind 44 line rest → placed column (fields line) ≡ (column, first) ∷ fields_from (column + (length first + 1)) rest
+fields_first column line first (Some rest) is h =
+    rw (is, h.1) (ap (placed column) (slice_split_first (λ b. eqb b 44) line 0 h.0))
+fields_first column line first None is h =
+    let one : fields line ≡ first ∷ [] =
+    slice_split_none (λ b. eqb b 44) line (no_mark 44 line h) ∙ ap (λ l. l ∷ []) (sym (take_all _ line (omega arith)) ∙ ap (λ n. take n line) (sym h) ∙ sym is) in
+    ap (placed column) one
 
-pub fields_step : (xs : List ℕ) → fields xs ≡ take (stop 44 xs) xs ∷ pending (suc (stop 44 xs)) xs
-fields_step [] = refl
-fields_step (c ∷ cs) =
-    let ih = fields_step cs in
-    elim (eqb c 44) as (λ v. cond v ([] ∷ fields cs) (onto c (fields cs)) ≡ take (cond v 0 (suc (stop 44 cs))) (c ∷ cs) ∷ pending (suc (cond v 0 (suc (stop 44 cs)))) (c ∷ cs)) [
-      | true ↦ simp (le-leb 1 (suc (length cs)) (omega arith))
-      | false ↦ ap (onto c) ih ∙ simp leb_suc
-    ]
+pub fields_next : (column : ℕ) (left : Option (Bor (List ℕ))) (line : Bor (List ℕ)) (first : List ℕ) (rest : Option (Bor (List ℕ))) → left ≡ Some line → first ≡ before_first (λ b. eqb b 44) line.now → Behind 44 line.now rest → fields_from column left ≡ (column, first) ∷ fields_from (column + (length first + 1)) rest
+fields_next column left line first rest some is h = rw some (fields_first column line.now first rest is h)
 
-pub fields_more : (xs : List ℕ) (i e : ℕ) → i ≤ length xs → e ≡ i + stop 44 (drop i xs) → pending i xs ≡ take (e - i) (drop i xs) ∷ pending (e + 1) xs
-fields_more xs i e h is =
-    let n : stop 44 (drop i xs) ≡ e - i = omega arith in
-    let there : i + suc (stop 44 (drop i xs)) ≡ e + 1 = omega arith in
-    let same : leb (suc (stop 44 (drop i xs))) (length (drop i xs)) ≡ leb (e + 1) (length xs) = simp length-drop (grind arith) in
-    simp (le-leb i (length xs) h) (fields_step (drop i xs) ∙ ap (λ b. take (stop 44 (drop i xs)) (drop i xs) ∷ cond b (fields (drop (suc (stop 44 (drop i xs))) (drop i xs))) []) same ∙ simp drop-drop (simp there (simp n)))
+length-placed : (column : ℕ) (fs : List (List ℕ)) → length (placed column fs) ≡ length fs
+length-placed column [] = refl
+length-placed column (f ∷ fs) = ap (λ n. suc n) (length-placed (column + (length f + 1)) fs)
 
-onto_same : (c : ℕ) (ls : List (List ℕ)) → 0 < length ls → length (onto c ls) ≡ length ls
-onto_same c [] h = absurd (omega arith)
-onto_same c (l ∷ ls) h = refl
-
--- no more fields than bytes and one
-pub fields_few : (xs : List ℕ) → length (fields xs) ≤ length xs + 1
-fields_few [] = omega arith
-fields_few (c ∷ cs) =
-    let h = fields_few cs in
-    let some : 0 < length (fields cs) = rw (fields_step cs) (omega arith) in
-    elim (eqb c 44) as (λ v. length (cond v ([] ∷ fields cs) (onto c (fields cs))) ≤ suc (length cs) + 1) [ true ↦ omega arith | false ↦ omega (arith, onto_same c (fields cs) some) ]
-
-pub pending_few : (i : ℕ) (xs : List ℕ) → length (pending i xs) ≤ length xs + 1
-pending_few i xs =
-    let h = fields_few (drop i xs) in
-    let d = length-drop i xs in
-    elim (leb i (length xs)) as (λ v. length (cond v (fields (drop i xs)) []) ≤ length xs + 1) [ true ↦ omega arith | false ↦ omega arith ]
+pub some_left : (column : ℕ) (left : Option (Bor (List ℕ))) (line : Bor (List ℕ)) → left ≡ Some line → length (fields_from column left) ≡ count_by (λ b. eqb b 44) line.now + 1
+some_left column left line is =
+    rw is (length-placed column (fields line.now) ∙ length-slice_split (λ b. eqb b 44) line.now)

@@ -1,10 +1,10 @@
 -- The event that a line carries. Assumes nothing.
-use Rattle.std.specs.Prelude.{ℕ, ◌+◌, cond, List, [], ◌∷◌, length, Some, None, Ok, Err, Option, Result, ◌==◌, nat_lt, slice_index}
+use Rattle.std.specs.Prelude.{ℕ, cond, List, [], ◌∷◌, length, Some, None, Ok, Err, Option, Result, ◌==◌, nat_lt, slice_index}
 use Rattle.events.specs.declared.event.Event.{Event}
 use Rattle.events.specs.declared.event.Event.TheVariants.{Take, HandBack, Bill, Pay}
 use Rattle.events.specs.declared.fault.ReaderFault.{ReaderFault}
 use Rattle.events.specs.declared.fault.ReaderFault.TheVariants.{TooLong, Shape, Field}
-use Rattle.events.specs.Lines.{fields}
+use Rattle.events.specs.Lines.{fields, placed}
 use Rattle.events.specs.Figures.{figure_of}
 
 -- the forms of an event, by letter
@@ -51,27 +51,27 @@ with_figure (Err e) ns = Err e
 with_figure (Ok n) (Err e) = Err e
 with_figure (Ok n) (Ok ns) = Ok (n ∷ ns)
 
--- the figures in fields, the first of which begins at the column; the first unlawful field from the left decides
-abbrev pub figures : (column : ℕ) → List (List ℕ) → Result (List ℕ) ReaderFault
-figures column [] = Ok []
-figures column (f ∷ fs) = with_figure (figure_at column f) (figures (column + length f + 1) fs)
+-- the figures in fields, each with its column; the first unlawful field from the left decides
+abbrev pub figures : List (ℕ × List ℕ) → Result (List ℕ) ReaderFault
+figures [] = Ok []
+figures (f ∷ fs) = with_figure (figure_at f.0 f.1) (figures fs)
 
 abbrev pub as_event : Form → Result (List ℕ) ReaderFault → Result Event ReaderFault
 as_event k (Ok ns) = Ok (event k ns)
 as_event k (Err e) = Err e
 
 -- the event in the fields after the letter, where there are as many as the form has
-abbrev pub event_in : Form → List (List ℕ) → Result Event ReaderFault
-event_in k fs = cond (length fs == fields_after k) (as_event k (figures 3 fs)) (Err Shape)
+abbrev pub event_in : Form → List (ℕ × List ℕ) → Result Event ReaderFault
+event_in k fs = cond (length fs == fields_after k) (as_event k (figures fs)) (Err Shape)
 
-abbrev pub event_with : Option Form → List (List ℕ) → Result Event ReaderFault
+abbrev pub event_with : Option Form → List (ℕ × List ℕ) → Result Event ReaderFault
 event_with (Some k) fs = event_in k fs
 event_with None fs = Err Shape
 
--- the first field fixes the rest
+-- the first field fixes the rest; it and its comma take the first two columns
 abbrev pub event_from : List (List ℕ) → Result Event ReaderFault
 event_from [] = Err Shape
-event_from (letter ∷ fs) = event_with (form_of letter) fs
+event_from (letter ∷ fs) = event_with (form_of letter) (placed 3 fs)
 
 -- a line over 140 bytes is not read
 abbrev pub event_of : List ℕ → Result Event ReaderFault

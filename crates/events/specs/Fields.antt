@@ -1,11 +1,18 @@
--- What a walk over the fields of a line has yet to hand out, and the column at which that begins. Assumes nothing.
-use Rattle.std.specs.Prelude.{ℕ, ◌+◌, List}
+-- What a walk over the fields of a line has yet to hand out. Assumes nothing.
+use Rattle.std.specs.Prelude.{ℕ, List, [], Some, None, Option}
+use Rattle.std.specs.Borrow.{Bor}
 use Rattle.events.specs.declared.fields.Fields.{Fields}
-use Rattle.events.specs.Walks.{pending}
+use Rattle.events.specs.declared.fields.Field.{Field}
+use Rattle.events.specs.Lines.{fields, placed}
 
-abbrev pub fields_left : Fields → List (List ℕ)
-fields_left f = pending f.at f.rest.now
+-- a field, as its column and its bytes
+abbrev pub field_of : Field → ℕ × List ℕ
+field_of f = (f.column, f.bytes.now)
 
--- the letter and its comma take the first two columns
-abbrev pub column_left : Fields → ℕ
-column_left f = f.at + 3
+-- the fields of what is left of a line, which begins at the column, if anything is
+abbrev pub fields_from : (column : ℕ) → Option (Bor (List ℕ)) → List (ℕ × List ℕ)
+fields_from column None = []
+fields_from column (Some rest) = placed column (fields rest.now)
+
+abbrev pub fields_left : Fields → List (ℕ × List ℕ)
+fields_left f = fields_from f.column f.rest

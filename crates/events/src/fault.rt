@@ -2,7 +2,7 @@
 ghost use Rattle.std.specs.Prelude.{◌≡◌};
 ghost use Rattle.events.specs.Faults.{fault_number, fault_value};
 
-#[derive(Clone, Copy)]
+#[derive(Clone, Copy, Debug, PartialEq, Eq)]
 pub enum ReaderFault {
     /// The line is over 140 bytes.
     TooLong,
@@ -12,6 +12,7 @@ pub enum ReaderFault {
     Field(u8),
 }
 
+// `Field` holds its column, so no derive or cast gives these figures, and a `From` would be the same match.
 impl ReaderFault {
     /// The number of the question that was answered no.
     pub fn number(self) -> u32

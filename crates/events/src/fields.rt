@@ -1,5 +1,6 @@
 // The fields of a line, borrowed from it.
-ghost use Rattle.std.specs.Prelude.{◌≤◌, length};
+ghost use Rattle.std.specs.Prelude.{◌+◌, ◌≤◌, length};
+ghost use Rattle.std.specs.Option.{ForSome};
 
 /// A field, and the column at which it begins.
 #[derive(Clone, Copy)]
@@ -8,10 +9,12 @@ pub(crate) struct Field<'a> {
     pub(crate) column: u8,
 }
 
-/// Walks over what stands after a line's letter and its comma, and hands out the fields.
+/// Hands out the fields that stand after a line's letter and its comma.
 #[derive(Drop)]
 pub(crate) struct Fields<'a> {
-    pub(crate) rest: &'a [u8],
-    pub(crate) at: usize,
-    ghost short: { length rest.now ≤ 140 },
+    /// From the next field to the line's end; none after the last field.
+    pub(crate) rest: Option<&'a [u8]>,
+    /// The column at which the next field begins.
+    pub(crate) column: u8,
+    ghost short: { ForSome rest (λ r. column + length r.now ≤ 143) },
 }

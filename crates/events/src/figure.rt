@@ -6,18 +6,15 @@ ghost use Rattle.events.specs.Figures.{figure_of};
 pub(crate) fn read_figure(field: &[u8]) -> Option<u64>
     ensures value { result ≡ figure_of field.now }
 {
-    if field.is_empty() || field.len() > 13 {
+    if field.len() > 13 || matches!(field, [] | [b'0', _, ..]) {
         return None;
     }
-    if field[0] == b'0' && field.len() > 1 {
-        return None;
-    }
-    let mut number: u64 = 0;
-    for b in field {
-        if *b < b'0' || *b > b'9' {
+    let mut number = 0;
+    for digit in field {
+        if !digit.is_ascii_digit() {
             return None;
         }
-        number = number * 10 + u64::from(*b - b'0');
+        number = number * 10 + u64::from(*digit - b'0');
     }
     Some(number)
 }

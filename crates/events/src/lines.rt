@@ -1,51 +1,51 @@
 // A text's lines, borrowed from what was handed in.
-ghost use Rattle.std.specs.Prelude.{◌≡◌, ◌+◌, ◌≤◌, [], ◌∷◌, length, drop, MatchOption};
+ghost use Rattle.std.specs.Prelude.{◌≡◌, ◌+◌, ◌<◌, ◌==◌, length, drop, MatchOption};
+ghost use Rattle.std.specs.List.{before_first, after_first, position_or_len};
+ghost use Rattle.std.specs.Iterator.{YieldsFirstRef, item_count};
 ghost use Rattle.events.specs.Lines.{lines};
-ghost use Rattle.events.specs.Walks.{stop, lines_left};
+ghost use Rattle.events.specs.Walks.{lines_left};
 
-/// The first place from `from` on at which `b` stands, or the end.
-pub(crate) fn stop_at(text: &[u8], from: usize, b: u8) -> usize
-    requires { from ≤ length text.now }
-    ensures value { result ≡ from + stop b (drop from text.now) }
-    ensures within { result ≤ length text.now }
+/// What stands before the first `mark`, and what after it, where there is one.
+pub(crate) fn split_at_first(text: &[u8], mark: u8) -> (&[u8], Option<&[u8]>)
+    ensures before { result.0.now ≡ before_first (λ b. b == mark) text.now }
+    ensures after { MatchOption result.1
+        (position_or_len (λ b. b == mark) text.now ≡ length text.now)
+        (λ rest. (position_or_len (λ b. b == mark) text.now < length text.now) × (rest.now ≡ after_first (λ b. b == mark) text.now)) }
 {
-    let mut i = from;
-    while i < text.len() && text[i] != b {
-        i += 1;
+    match text.iter().position(|b| *b == mark) {
+        Some(end) => (&text[..end], Some(&text[end + 1..])),
+        None => (text, None),
     }
-    i
 }
 
-/// Walks over a text and hands out its lines.
+/// Hands out the lines of a text.
 #[derive(Drop)]
 pub struct Reader<'a> {
-    text: &'a [u8],
-    at: usize,
+    rest: &'a [u8],
 }
 
 impl<'a> Reader<'a> {
     pub fn new(text: &'a [u8]) -> Reader<'a>
         ensures made { lines_left result ≡ lines text.now }
     {
-        Reader { text, at: 0 }
+        Reader { rest: text }
     }
+}
 
-    pub fn next(&mut self) -> Option<&'a [u8]>
-        ensures value { MatchOption result
-            ((lines_left self.old ≡ []) × (lines_left self.new ≡ []))
-            (λ l. lines_left self.old ≡ l.now ∷ lines_left self.new) }
-    {
-        let text = self.text;
-        let start = self.at;
-        if start >= text.len() {
+impl<'a> Iterator for Reader<'a> {
+    type Item = &'a [u8];
+
+    ghost next_gives = { YieldsFirstRef lines_left };
+
+    ghost remaining = { item_count lines_left };
+
+    #[tactic(auto, using(crate::proofs::Steps::lines_next))]
+    fn next(&mut self) -> Option<&'a [u8]> {
+        if self.rest.is_empty() {
             return None;
         }
-        let end = stop_at(text, start, b'\n');
-        if end < text.len() {
-            self.at = end + 1;
-        } else {
-            self.at = end;
-        }
-        Some(&text[start..end])
+        let (line, rest) = split_at_first(self.rest, b'\n');
+        self.rest = rest.unwrap_or(&[]);
+        Some(line)
     }
 }

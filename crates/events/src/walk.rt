@@ -1,82 +1,90 @@
 // The walk over the fields of a line.
-ghost use Rattle.std.specs.Prelude.{◌≡◌, ◌+◌, ◌<◌, ◌≤◌, [], ◌∷◌, length, if◌then◌else◌, Ok, Err, MatchOption, nat_eq};
+ghost use Rattle.std.specs.Prelude.{◌≡◌, ◌<◌, ◌≤◌, ◌+◌, length, if◌then◌else◌, Ok, Err, nat_eq};
+ghost use Rattle.std.specs.Iterator.{YieldsFirstBy, item_count};
 ghost use Rattle.events.specs.declared.fault.ReaderFault.TheVariants.{Shape};
-ghost use Rattle.events.specs.Lines.{fields};
-ghost use Rattle.events.specs.Events.{with_figure, figures};
-ghost use Rattle.events.specs.Fields.{fields_left, column_left};
+ghost use Rattle.events.specs.Lines.{fields, placed};
+ghost use Rattle.events.specs.Events.{with_figure, figures, figure_at};
+ghost use Rattle.events.specs.Fields.{field_of, fields_left};
 
 use crate::fault::ReaderFault;
 use crate::fields::{Field, Fields};
 use crate::figure::read_figure;
-use crate::lines::stop_at;
+use crate::lines::split_at_first;
+
+impl<'a> Field<'a> {
+    /// The figure in the field.
+    fn figure(self) -> Result<u64, ReaderFault>
+        ensures value { result ≡ figure_at self.entry.column self.entry.bytes.now }
+    {
+        read_figure(self.bytes).ok_or(ReaderFault::Field(self.column))
+    }
+}
 
 impl<'a> Fields<'a> {
+    /// The fields of what stands after a line's letter and its comma, which take two columns.
     pub(crate) fn new(rest: &'a [u8]) -> Fields<'a>
         requires { length rest.now ≤ 140 }
-        ensures made { (fields_left result ≡ fields rest.now) × (column_left result ≡ 3) }
+        ensures made { fields_left result ≡ placed 3 (fields rest.now) }
     {
-        Fields { rest, at: 0 }
-    }
-
-    pub(crate) fn next(&mut self) -> Option<Field<'a>>
-        ensures value { MatchOption result
-            (fields_left self.old ≡ [])
-            (λ f. fields_left self.old ≡ f.bytes.now ∷ fields_left self.new) }
-        ensures after { MatchOption result
-            (column_left self.new ≡ column_left self.old)
-            (λ f. (f.column ≡ column_left self.old) × (column_left self.new ≡ f.column + length f.bytes.now + 1)) }
-    {
-        let rest = self.rest;
-        let start = self.at;
-        if start > rest.len() {
-            return None;
+        Fields {
+            rest: Some(rest),
+            column: 3,
         }
-        let end = stop_at(rest, start, b',');
-        self.at = end + 1;
-        Some(Field {
-            bytes: &rest[start..end],
-            column: (start + 3) as u8,
-        })
     }
 
     /// The figure in the next field.
-    pub(crate) fn figure(&mut self) -> Result<u64, ReaderFault>
+    fn figure(&mut self) -> Result<u64, ReaderFault>
         requires { 0 < length (fields_left self.old) }
-        ensures value { figures (column_left self.old) (fields_left self.old)
-            ≡ with_figure result (figures (column_left self.new) (fields_left self.new)) }
+        ensures value { figures (fields_left self.old) ≡ with_figure result (figures (fields_left self.new)) }
         ensures after { length (fields_left self.old) ≡ 1 + length (fields_left self.new) }
     {
-        let Some(field) = self.next() else {
-            return unreachable();
-        };
-        match read_figure(field.bytes) {
-            Some(n) => Ok(n),
-            None => Err(ReaderFault::Field(field.column)),
+        match self.next() {
+            Some(field) => field.figure(),
+            None => unreachable(),
         }
     }
 
-    /// How many fields are left.
-    fn count(&self) -> usize
-        ensures value { result ≡ length (fields_left self.now) }
+    /// How many fields are left: one more than commas.
+    #[tactic(auto, using(crate::proofs::Steps::some_left))]
+    fn count_left(&self) -> usize
+        ensures { result ≡ length (fields_left self.now) }
     {
-        let mut walk = Fields {
-            rest: self.rest,
-            at: self.at,
-        };
-        let mut n = 0;
-        while let Some(_) = walk.next() {
-            n += 1;
+        match self.rest {
+            Some(rest) => rest.iter().filter(|b| **b == b',').count() + 1,
+            None => 0,
         }
-        n
     }
 
-    /// Are as many fields left as the letter asks?
-    pub(crate) fn expect(&self, asked: usize) -> Result<(), ReaderFault>
-        ensures value { result ≡ (if nat_eq (length (fields_left self.now)) asked then Ok tt else Err Shape) }
+    /// The figures in the fields that are left, where those are as many as the form asks.
+    pub(crate) fn figures<const N: usize>(mut self) -> Result<[u64; N], ReaderFault>
+        ensures value { result ≡ (if nat_eq (length (fields_left self.entry)) N then figures (fields_left self.entry) else Err Shape) }
     {
-        if self.count() != asked {
+        if self.count_left() != N {
             return Err(ReaderFault::Shape);
         }
-        Ok(())
+        let mut figures = [0; N];
+        for figure in figures.iter_mut() {
+            *figure = self.figure()?;
+        }
+        Ok(figures)
+    }
+}
+
+impl<'a> Iterator for Fields<'a> {
+    type Item = Field<'a>;
+
+    ghost next_gives = { YieldsFirstBy field_of fields_left };
+
+    ghost remaining = { item_count fields_left };
+
+    fn next(&mut self) -> Option<Field<'a>> {
+        let (bytes, rest) = split_at_first(self.rest?, b',');
+        let field = Field {
+            bytes,
+            column: self.column,
+        };
+        self.rest = rest;
+        self.column += bytes.len() as u8 + 1;
+        Some(field)
     }
 }

@@ -9,7 +9,7 @@ use Rattle.events.specs.declared.event.Event.{Event}
 use Rattle.events.specs.declared.fault.ReaderFault.{ReaderFault}
 use Rattle.events.specs.Events.{event_of}
 use Rattle.office.specs.declared.fault.Fault.{Fault}
-use Rattle.office.specs.declared.page.Page.{Page}
+use Rattle.office.specs.declared.kept.Page.{Page}
 use Rattle.office.specs.Pages.{Wrote}
 use Rattle.office.specs.Texts.{told}
 use Rattle.office.specs.Statement.{heard, calls, reply, replies}
@@ -29,8 +29,7 @@ pub record Going {T : Type 0} (mean : T → Tariff) (a b : Account T) (p q : Pag
   pub state : state_of b ≡ after (mean a.tariff) (opening_of a) made
   pub opening : opening_of b ≡ opening_of a
   pub tariff : mean b.tariff ≡ mean a.tariff
-  pub lent : q.bytes.ghost_name ≡ p.bytes.ghost_name
-  pub page : Wrote p q written
+  pub page : Wrote p q (Ok tt) written
   pub answers : written ++ replies (mean a.tariff) (opening_of a) made left ≡ replies (mean a.tariff) (opening_of a) [] all
   pub heard_all : calls made left ≡ calls [] all
 
@@ -42,42 +41,47 @@ module _ {T : Type 0} (mean : T → Tariff) (a : Account T) (p : Page) (all : Li
     state = opened;
     opening = refl;
     tariff = refl;
-    lent = refl;
     page = wrote_none p;
     answers = ap (replies (mean a.tariff) (opening_of a) []) is;
     heard_all = ap (calls []) is;
   }
 
-  pub going_more : (b d : Account T) (q r : Page) (l : List ℕ) (rest left : List (List ℕ)) (z : Result ℤ Fault) → Going mean a b p q all left → left ≡ l ∷ rest → Served mean b d (event_of l) z → r.bytes.ghost_name ≡ q.bytes.ghost_name → Wrote q r (told z) → Going mean a d p r all rest
-  going_more b d q r l rest left z g is s lent w =
-      let t = mean a.tariff in
-      let o = opening_of a in
-      let said : told z ≡ reply t o (after t o g.made) (event_of l) =
-      s.answer
-      ∙ ap (λ (x : Tariff). reply x (opening_of b) (state_of b) (event_of l)) g.tariff
-      ∙ ap (λ (x : Opening). reply t x (state_of b) (event_of l)) g.opening
-      ∙ ap (λ (x : State). reply t o x (event_of l)) g.state
-      in
-      record {
-        made = heard g.made (event_of l);
-        written = g.written ++ told z;
-        state =
-            s.state
-            ∙ ap (λ (x : Tariff). moved x (opening_of b) (state_of b) (event_of l)) g.tariff
-            ∙ ap (λ (x : Opening). moved t x (state_of b) (event_of l)) g.opening
-            ∙ ap (λ (x : State). moved t o x (event_of l)) g.state
-            ∙ moved_after t o g.made (event_of l);
-        opening = s.opening ∙ g.opening;
-        tariff = s.tariff ∙ g.tariff;
-        lent = lent ∙ g.lent;
-        page = g.page then w;
-        answers =
-            append_assoc g.written (told z) _
-            ∙ ap (λ x. g.written ++ (x ++ replies t o (heard g.made (event_of l)) rest)) said
-            ∙ ap (λ x. g.written ++ replies t o g.made x) (sym is)
-            ∙ g.answers;
-        heard_all = ap (calls g.made) (sym is) ∙ g.heard_all;
-      }
+  module _ (b d : Account T) (q r : Page) (l : List ℕ) (rest left : List (List ℕ)) (z : Result ℤ Fault) (g : Going mean a b p q all left) (is : left ≡ l ∷ rest) (s : Served mean b d (event_of l) z) where
+    -- a line is answered as the state before it has it
+    line_said : told z ≡ reply (mean a.tariff) (opening_of a) (after (mean a.tariff) (opening_of a) g.made) (event_of l)
+    line_said =
+        s.answer
+        ∙ ap (λ (x : Tariff). reply x (opening_of b) (state_of b) (event_of l)) g.tariff
+        ∙ ap (λ (x : Opening). reply (mean a.tariff) x (state_of b) (event_of l)) g.opening
+        ∙ ap (λ (x : State). reply (mean a.tariff) (opening_of a) x (event_of l)) g.state
+
+    line_left : (g.written ++ told z) ++ replies (mean a.tariff) (opening_of a) (heard g.made (event_of l)) rest ≡ replies (mean a.tariff) (opening_of a) [] all
+    line_left =
+        let t = mean a.tariff in
+        let o = opening_of a in
+        append_assoc g.written (told z) _
+        ∙ ap (λ x. g.written ++ (x ++ replies t o (heard g.made (event_of l)) rest)) line_said
+        ∙ ap (λ x. g.written ++ replies t o g.made x) (sym is)
+        ∙ g.answers
+
+    pub going_more : Wrote q r (Ok tt) (told z) → Going mean a d p r all rest
+    going_more w =
+        let t = mean a.tariff in
+        record {
+          made = heard g.made (event_of l);
+          written = g.written ++ told z;
+          state =
+              s.state
+              ∙ ap (λ (x : Tariff). moved x (opening_of b) (state_of b) (event_of l)) g.tariff
+              ∙ ap (λ (x : Opening). moved t x (state_of b) (event_of l)) g.opening
+              ∙ ap (λ (x : State). moved t (opening_of a) x (event_of l)) g.state
+              ∙ moved_after t (opening_of a) g.made (event_of l);
+          opening = s.opening ∙ g.opening;
+          tariff = s.tariff ∙ g.tariff;
+          page = g.page then w;
+          answers = line_left;
+          heard_all = ap (calls g.made) (sym is) ∙ g.heard_all;
+        }
 
   pub going_state : (b : Account T) (q : Page) (left : List (List ℕ)) → Going mean a b p q all left → left ≡ [] → Ran mean a b all
   going_state b q left g is = record {
@@ -86,7 +90,7 @@ module _ {T : Type 0} (mean : T → Tariff) (a : Account T) (p : Page) (all : Li
     tariff = g.tariff;
   }
 
-  pub going_text : (b : Account T) (q : Page) (left : List (List ℕ)) → Going mean a b p q all left → left ≡ [] → Wrote p q (replies (mean a.tariff) (opening_of a) [] all)
+  pub going_text : (b : Account T) (q : Page) (left : List (List ℕ)) → Going mean a b p q all left → left ≡ [] → Wrote p q (Ok tt) (replies (mean a.tariff) (opening_of a) [] all)
   going_text b q left g is =
       let whole : g.written ≡ replies (mean a.tariff) (opening_of a) [] all =
       sym (append-nil g.written) ∙ sym (ap (λ x. g.written ++ replies (mean a.tariff) (opening_of a) g.made x) is) ∙ g.answers

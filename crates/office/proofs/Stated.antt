@@ -1,15 +1,16 @@
 -- A statement under a tariff is the statement under its number. Assumes nothing.
-use Rattle.std.proofs.Common.{◌≡◌, ℕ, ◌+◌, ◌-◌, Bool, true, List, [], ◌∷◌, ◌++◌, length, replicate, sym, ap, ◌∙◌, subst, arith}
+use Rattle.std.proofs.Common.{◌≡◌, ℕ, ◌+◌, ◌-◌, Bool, List, [], ◌++◌, length, replicate, Ok, Err, Result, ap, ◌∙◌, arith}
 use Rattle.std.proofs.lemmas.List.{length-append, length-replicate}
 use Rattle.std.proofs.lemmas.Bool.{eq-eqb}
 use Rattle.rules.specs.Subject.{Tariff, Opening}
-use Rattle.rules.specs.Questions.{is_day}
 use Rattle.rules.specs.Machine.{after, shown}
 use Rattle.rules.proofs.Stands.{account_law}
-use Rattle.tariff.specs.Hotel.{numbered}
 use Rattle.events.specs.Lines.{lines}
 use Rattle.office.specs.Statement.{calls, result_text}
-use Rattle.office.specs.Office.{opened_on, text_asked, is_tariff, asked, page_for, Stated, LawfulPage}
+use Rattle.office.specs.declared.refused.Refused.{Refused}
+use Rattle.office.specs.declared.refused.Refused.TheVariants.{Figures, Page, Text}
+use Rattle.office.specs.Refusals.{number_of, value_of, cleared}
+use Rattle.office.specs.Office.{page_for, Stated, LawfulPage}
 
 -- an accepted page shows an account that keeps the law
 lawful_page : (t : Tariff) (o : Opening) (text page : List ℕ) (n number : ℕ) → page ≡ page_for n number (result_text t o (lines text)) → number ≡ 0 → LawfulPage t o text page
@@ -24,15 +25,12 @@ lawful_page t o text page n number e accepted =
       shows = is ∙ ap (λ m. w ++ replicate m 0) rest;
     }
 
--- k is the number that the office gave, and t its tariff
-pub by_number : {t : Tariff} {text before left : List ℕ} {number value : ℕ} (tariff k day : ℕ) → tariff ≡ k → is_tariff k ≡ true → t ≡ numbered k → Stated t (opened_on day) ((2, is_day day) ∷ text_asked t (opened_on day) text (length before)) text before left number value → Stated (numbered tariff) (opened_on day) (asked tariff day text (length before)) text before left number value
-by_number {t} {text} {before} {left} {number} {value} tariff k day named lawful means s =
-    let is : t ≡ numbered tariff = means ∙ ap numbered (sym named) in
-    let u : Stated (numbered tariff) (opened_on day) ((2, is_day day) ∷ text_asked (numbered tariff) (opened_on day) text (length before)) text before left number value =
-    subst (λ (x : Tariff). Stated x (opened_on day) ((2, is_day day) ∷ text_asked x (opened_on day) text (length before)) text before left number value) is s
-    in
-    record { answered = u.answered ∙ simp (ap is_tariff named ∙ lawful); counted = u.counted; page = u.page }
-
 -- an accepted statement
 pub lawful : {t : Tariff} {o : Opening} {qs : List (ℕ × Bool)} {text before left : List ℕ} {number value : ℕ} → Stated t o qs text before left number value → number ≡ 0 → LawfulPage t o text left
 lawful {t} {o} {qs} {text} {before} {left} {number} s accepted = lawful_page t o text left (length before) number s.page accepted
+
+pub lawful_result : {t : Tariff} {o : Opening} {qs : List (ℕ × Bool)} {text before : List ℕ} (r : Result ℕ Refused) (page : List ℕ) → Stated t o qs text before (cleared r page) (number_of r) (value_of r) → number_of r ≡ 0 → LawfulPage t o text page
+lawful_result (Ok bytes) page s accepted = lawful s accepted
+lawful_result (Err Figures) page s accepted = cc
+lawful_result (Err Page) page s accepted = cc
+lawful_result (Err Text) page s accepted = cc

@@ -3,4 +3,5 @@ pub mod Faults
 pub mod Texts
 pub mod Statement
 pub mod Served
+pub mod Refusals
 pub mod Office

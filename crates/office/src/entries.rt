@@ -5,24 +5,25 @@ ghost use Rattle.office.specs.Pages.{Wrote};
 ghost use Rattle.office.specs.Texts.{layer_letter, line_letter, row_text, answer_line, told, journal_line, sums_line};
 
 use crate::fault::{Fault, Layer};
-use crate::page::Page;
+use crate::kept::Page;
+use crate::page::Full;
 use figures::line::{Letter, Line};
 use figures::money::Money;
 
-impl Layer {
-    fn letter(self) -> u8
-        ensures value { result ≡ layer_letter self }
-    {
-        match self {
+impl From<Layer> for u8 {
+    ghost from_gives = { λ layer letter. letter ≡ layer_letter layer };
+
+    fn from(layer: Layer) -> u8 {
+        match layer {
             Layer::Reader => b'r',
             Layer::Account => b'a',
         }
     }
 }
 
-/// The letter of a journal line.
+/// The letter of a journal line. No `From`: both types are of other crates.
 fn letter(letter: Letter) -> u8
-    ensures value { result ≡ line_letter (letter_of letter) }
+    ensures { result ≡ line_letter (letter_of letter) }
 {
     match letter {
         Letter::Bill => b'B',
@@ -32,21 +33,21 @@ fn letter(letter: Letter) -> u8
 }
 
 impl<'a> Page<'a> {
-    fn answer_line(&mut self, layer: Layer, number: u32, value: i64)
-        ensures same { self.new.bytes.ghost_name ≡ self.old.bytes.ghost_name }
-        ensures after { Wrote self.old self.new (answer_line (layer_letter layer) number value) }
+    #[inline(always)]
+    fn answer_line(&mut self, layer: Layer, number: u32, value: i64) -> Result<(), Full>
+        ensures { Wrote self.old self.new result (answer_line (layer_letter layer) number value) }
     {
-        self.text(&[b'A', b',', layer.letter(), b',']);
-        self.figure(number as u64);
-        self.push(b',');
-        self.cents(Money(value));
-        self.push(b'\n');
+        self.text(&[b'A', b',', layer.into(), b','])?;
+        self.figure(number as u64)?;
+        self.push(b',')?;
+        self.cents(Money(value))?;
+        self.push(b'\n')
     }
 
     /// What a line of the text was answered: `A,layer,number,value`.
-    pub fn answer(&mut self, outcome: Result<i64, Fault>)
-        ensures same { self.new.bytes.ghost_name ≡ self.old.bytes.ghost_name }
-        ensures after { Wrote self.old self.new (told outcome) }
+    #[inline(always)]
+    pub fn answer(&mut self, outcome: Result<i64, Fault>) -> Result<(), Full>
+        ensures { Wrote self.old self.new result (told outcome) }
     {
         match outcome {
             Ok(value) => self.answer_line(Layer::Account, 0, value),
@@ -55,9 +56,8 @@ impl<'a> Page<'a> {
     }
 
     /// A row's number, or `-` where the line names none.
-    fn row(&mut self, row: Option<u32>)
-        ensures same { self.new.bytes.ghost_name ≡ self.old.bytes.ghost_name }
-        ensures after { Wrote self.old self.new (row_text row) }
+    fn row(&mut self, row: Option<u32>) -> Result<(), Full>
+        ensures { Wrote self.old self.new result (row_text row) }
     {
         match row {
             Some(number) => self.figure(number as u64),
@@ -66,28 +66,26 @@ impl<'a> Page<'a> {
     }
 
     /// A line of the journal: `J,hold,letter,row,cents`.
-    pub fn journal(&mut self, line: Line)
-        ensures same { self.new.bytes.ghost_name ≡ self.old.bytes.ghost_name }
-        ensures after { Wrote self.old self.new (journal_line (line_seen line)) }
+    pub fn journal(&mut self, line: Line) -> Result<(), Full>
+        ensures { Wrote self.old self.new result (journal_line (line_seen line)) }
     {
-        self.text(b"J,");
-        self.figure(line.hold as u64);
-        self.text(&[b',', letter(line.letter), b',']);
-        self.row(line.row);
-        self.push(b',');
-        self.cents(line.cents);
-        self.push(b'\n');
+        self.text(b"J,")?;
+        self.figure(line.hold as u64)?;
+        self.text(&[b',', letter(line.letter), b','])?;
+        self.row(line.row)?;
+        self.push(b',')?;
+        self.cents(line.cents)?;
+        self.push(b'\n')
     }
 
     /// The balance and the amount due: `S,balance,due`.
-    pub fn sums(&mut self, balance: Money, due: Money)
-        ensures same { self.new.bytes.ghost_name ≡ self.old.bytes.ghost_name }
-        ensures after { Wrote self.old self.new (sums_line balance.0 due.0) }
+    pub fn sums(&mut self, balance: Money, due: Money) -> Result<(), Full>
+        ensures { Wrote self.old self.new result (sums_line balance.0 due.0) }
     {
-        self.text(b"S,");
-        self.cents(balance);
-        self.push(b',');
-        self.cents(due);
-        self.push(b'\n');
+        self.text(b"S,")?;
+        self.cents(balance)?;
+        self.push(b',')?;
+        self.cents(due)?;
+        self.push(b'\n')
     }
 }

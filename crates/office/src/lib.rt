@@ -3,7 +3,9 @@
 
 pub mod entries;
 pub mod fault;
+pub mod kept;
 pub mod page;
+pub mod refused;
 pub mod serving;
 pub mod statement;
 mod writing;

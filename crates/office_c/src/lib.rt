@@ -1,11 +1,13 @@
 // The office's statement, exported to C.
 #![tactic(auto)]
 
+mod answer;
+
 ghost use Rattle.std.specs.Prelude.{◌≡◌, length};
 ghost use Rattle.tariff.specs.Hotel.{numbered};
 ghost use Rattle.office.specs.Office.{opened_on, asked, Stated, LawfulPage};
 
-use office::statement::Answer;
+pub use answer::Answer;
 
 /// The statement of a text under the tariff of this number, for an account that opens on this day.
 #[unsafe(no_mangle)]
@@ -14,5 +16,5 @@ pub extern "C" fn statement(tariff: u32, opening: u32, text: &[u8], page: &mut [
         text.now page.old page.new result.number result.value }
     ensures law { result.number ≡ 0 → LawfulPage (numbered tariff) (opened_on opening) text.now page.new }
 {
-    office::statement::statement(tariff, opening, text, page)
+    office::statement::statement(tariff, opening, text, page).into()
 }

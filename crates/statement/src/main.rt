@@ -19,12 +19,9 @@ struct Asked {
 }
 
 fn figure(word: &str) -> anyhow::Result<u32> {
-    match word.parse::<u32>() {
-        Ok(figure) => Ok(figure),
-        Err(_) => Err(anyhow!(
-            "an argument is no figure; they are the tariff's number and the opening day"
-        )),
-    }
+    word.parse::<u32>().map_err(|_| {
+        anyhow!("an argument is no figure; they are the tariff's number and the opening day")
+    })
 }
 
 fn arguments(rt: &HostRuntime) -> anyhow::Result<Asked> {
@@ -48,32 +45,18 @@ fn arguments(rt: &HostRuntime) -> anyhow::Result<Asked> {
     Ok(asked)
 }
 
-/// A refused statement says which question was answered no.
-fn accepted(number: u32) -> anyhow::Result<()> {
-    match number {
-        0 => Ok(()),
-        2 => Err(anyhow!(
-            "refused by question 2: are the tariff's number (1 to 4) and the opening day (0 to 18262) in limits?"
-        )),
-        22 => Err(anyhow!("refused by question 22: has the text 1 to 65536 bytes?")),
-        _ => Err(anyhow!("refused by question 21: does the result fit the page?")),
-    }
-}
-
 fn run(rt: &HostRuntime) -> anyhow::Result<()> {
     let asked = arguments(rt)?;
     let mut text = Vec::new(rt.alloc());
     rt.stdin().read_to_end(&mut text)?;
     let mut page = vec![in rt.alloc(); 0u8; ROOM]?;
-    let answer = statement(
+    let bytes = statement(
         asked.tariff,
         asked.opening,
         text.as_slice(),
         page.as_mut_slice(),
-    );
-    accepted(answer.number)?;
-    let bytes = page.len().min(answer.value as usize);
-    rt.stdout().write_all(&page.as_slice()[0..bytes])?;
+    )?;
+    rt.stdout().write_all(&page.as_slice()[..bytes])?;
     Ok(())
 }
 

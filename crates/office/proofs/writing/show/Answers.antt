@@ -1,21 +1,13 @@
-use Rattle.std.proofs.Common.{refl, ◌∙◌}
+use Rattle.std.proofs.Common.{rules}
 use Rattle.rules.specs.Machine.{shown}
+use Rattle.figures.specs.View.{line_seen}
 use Rattle.account.specs.State.{state_of}
-use Rattle.office.proofs.Steps.{wrote_none}
-use Rattle.office.proofs.Journal.{journal_more, journal_all}
+use Rattle.office.specs.Texts.{journal_line, sums_line}
+use Rattle.office.proofs.Steps.{risen, spelled_as, item_stopped}
 use Rattle.office.proofs.writing.show.Goals as goal
 
-pub loop-i-init : goal.loop-i-init
-loop-i-init g c = (refl, wrote_none _)
-
-pub loop-i-preserved : goal.loop-i-preserved
-loop-i-preserved g c = (
-  c.journal.ensures.same ∙ c.loop-i.invariant.0,
-  journal_more _ _ _ c.loop-i-test.true c.loop-i.invariant.1 c.journal.ensures.after,
-)
-
-pub returns : goal.returns
-returns g c = record {
-  same = c.sums.ensures.same ∙ c.loop-i.invariant.0;
-  after = journal_all _ _ (shown (state_of c.args.account.now)) _ _ c.loop-i-test.false c.lines-lines.ensures c.balance.ensures c.due.ensures c.loop-i.invariant.1 c.sums.ensures.after;
-}
+pub returns-in_err-journal : goal.returns-in_err-journal
+returns-in_err-journal g c =
+    let s = shown (state_of c.args.account.now) in
+    risen c.from_residual.ensures.0
+    (spelled_as (search rules) (item_stopped journal_line line_seen _ c.loop-line.line-index _ c.loop-line-test.true (sums_line s.balance s.due) c.loop-line.invariant c.in_err-journal.ensures))

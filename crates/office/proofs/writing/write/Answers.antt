@@ -1,15 +1,10 @@
-use Rattle.std.proofs.Common.{ap, ◌∙◌, rules}
-use Rattle.office.specs.Pages.{size}
-use Rattle.office.proofs.Whole.{whole_held, whole_page}
+use Rattle.std.proofs.Common.{rules}
+use Rattle.office.proofs.Going.{going_from, going_more}
 use Rattle.office.proofs.writing.write.Goals as goal
 
-pub returns : goal.returns
-returns g c =
-    let made = c.new-page.ensures.made in
-    let ran = c.answer_lines.ensures.after in
-    let shows = c.show.ensures.after in
-    let on-page = c.finish.ensures.after ∙ whole_page g.T.Tariff.meaning _ _ _ _ _ _ _ made.0 made.1 ran.0 ran.1 shows in
-    record {
-      value = c.finish.ensures.value ∙ ap size (whole_held g.T.Tariff.meaning _ _ _ _ _ _ _ made.0 made.1 ran.0 ran.1 shows);
-      after = search rules;
-    }
+pub loop-line-init : goal.loop-line-init
+loop-line-init g c = going_from g.T.Tariff.meaning c.args.account.now c.new-page.result _ _ (search rules) c.requires
+
+pub loop-line-preserved : goal.loop-line-preserved
+loop-line-preserved g c =
+    going_more g.T.Tariff.meaning c.args.account.now c.new-page.result _ _ _ _ _ _ _ _ _ c.loop-line.invariant c.in-Some.ensures.steps c.serve-outcome.ensures.after (search rules)

@@ -1,6 +1,0 @@
-use Rattle.std.proofs.Common.{rules}
-use Rattle.events.proofs.Ends.{figures_none}
-use Rattle.events.proofs.read.read_pay.Goals as goal
-
-pub returns : goal.returns
-returns c = search (rules, figures_none)

@@ -1,0 +1,10 @@
+// A page lent by the caller, as it is kept.
+ghost use Rattle.std.specs.Prelude.{◌≤◌, length};
+
+/// The first `at` bytes are written.
+#[derive(Drop)]
+pub struct Page<'a> {
+    pub(crate) bytes: &'a mut [u8],
+    pub(crate) at: usize,
+    ghost within: { at ≤ length bytes.now },
+}
