@@ -37,7 +37,7 @@ fn arguments(rt: &HostRuntime) -> anyhow::Result<Asked> {
     if let Some(word) = words.next() {
         asked.opening = figure(word.as_str())?;
     }
-    if let Some(_) = words.next() {
+    if words.next().is_some() {
         return Err(anyhow!(
             "there are at most two arguments, the tariff's number and the opening day"
         ));
