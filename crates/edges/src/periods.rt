@@ -1,6 +1,8 @@
 // Days, periods and readings at their limits.
 use crate::bench::*;
 use account::account::Account;
+use figures::line::EMPTY;
+use figures::row::BLANK;
 use tariff::tariff::Tariff;
 
 #[test]
