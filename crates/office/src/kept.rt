@@ -1,7 +1,7 @@
 // A page lent by the caller, as it is kept.
 ghost use Rattle.std.specs.Prelude.{◌≤◌, length};
 
-/// The first `at` bytes are written.
+/// The first `at` bytes are written. The bytes are a slice that C lends, so what is written is a count beside them.
 #[derive(Drop)]
 pub struct Page<'a> {
     pub(crate) bytes: &'a mut [u8],

@@ -30,6 +30,7 @@ fn statement_under<T: Tariff + Drop>(
         ((2, is_day opening) ∷ text_asked (T.Tariff.meaning tariff) (opened_on opening) text.now (length page.old))
         text.now page.old (cleared result page.new) (number_of result) (value_of result) }
 {
+    // arrays as large as an account can use: the project has no heap here
     let mut rows = [BLANK; 120];
     let mut journal = [EMPTY; 1024];
     let Ok(mut account) = Account::open(tariff, opening, &mut rows, &mut journal) else {
@@ -48,7 +49,8 @@ fn changeover() -> Result<Changeover<Plain, ByDemand>, OutOfLimits>
     Changeover::new(h1(Kva(10))?, h2(), 365)
 }
 
-/// The statement of a text under the tariff of this number; a refused one leaves anything on the page.
+/// The statement of a text under the tariff of this number, by which the office's C program names it; a refused one leaves
+/// anything on the page.
 fn statement_numbered(
     tariff: u32,
     opening: u64,
