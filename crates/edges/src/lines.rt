@@ -12,7 +12,7 @@ fn fault(line: &[u8]) -> (u32, u8) {
 }
 
 #[test]
-fn letters_and_counts(rt: HostRuntime) -> Result<(), Fail> {
+fn letters_and_counts(rt: HostRuntime) {
     assert_eq!(rt; fault(b""), (18, 1));
     assert_eq!(rt; fault(b"T"), (18, 1));
     assert_eq!(rt; fault(b"t,1,1"), (18, 1));
@@ -21,18 +21,16 @@ fn letters_and_counts(rt: HostRuntime) -> Result<(), Fail> {
     assert_eq!(rt; fault(b"H,1,"), (18, 1));
     assert_eq!(rt; fault(b"B,1,2,3,4"), (18, 1));
     assert_eq!(rt; fault(b"B,1,2,3,4,5"), (0, 0));
-    Ok(())
 }
 
 #[test]
-fn a_hundred_and_forty_bytes(rt: HostRuntime) -> Result<(), Fail> {
+fn a_hundred_and_forty_bytes(rt: HostRuntime) {
     assert_eq!(rt; fault(&[b'1'; 140]), (18, 1));
     assert_eq!(rt; fault(&[b'1'; 141]), (20, 141));
-    Ok(())
 }
 
 #[test]
-fn digits(rt: HostRuntime) -> Result<(), Fail> {
+fn digits(rt: HostRuntime) {
     assert_eq!(rt; fault(b"P,1,9999999999999"), (0, 0));
     assert_eq!(rt; fault(b"P,1,10000000000000"), (19, 5));
     assert_eq!(rt; fault(b"P,1,01"), (19, 5));
@@ -47,7 +45,6 @@ fn digits(rt: HostRuntime) -> Result<(), Fail> {
         (19, 12),
         "the first from the left"
     );
-    Ok(())
 }
 
 /// Whether the page holds what is expected, and then zeros.
@@ -56,43 +53,38 @@ fn holds(page: &[u8], expected: &[u8]) -> bool {
         .is_some_and(|rest| rest.iter().all(|b| *b == 0))
 }
 
-fn is(answer: Result<usize, Refused>, number: u32, value: usize) -> bool {
-    match answer {
-        Ok(bytes) => number == 0 && bytes == value,
-        Err(refused) => number == refused.number() && value == 0,
-    }
+/// The bytes of a statement's result, or the number of its refusal.
+fn stated(tariff: u32, opening: u32, text: &[u8], page: &mut [u8]) -> Result<usize, u32> {
+    statement(tariff, opening, text, page).map_err(Refused::number)
 }
 
 #[test]
-fn a_last_line_with_and_without_its_end(rt: HostRuntime) -> Result<(), Fail> {
+fn a_last_line_with_and_without_its_end(rt: HostRuntime) {
     let mut page = [7u8; 20];
-    assert!(rt; is(statement(1, 0, b"T,100,10\n", &mut page), 0, 14));
+    assert_eq!(rt; stated(1, 0, b"T,100,10\n", &mut page), Ok(14));
     assert!(rt; holds(&page, b"A,a,0,1\nS,0,0\n"));
     let mut again = [7u8; 20];
-    assert!(rt; is(statement(1, 0, b"T,100,10", &mut again), 0, 14));
+    assert_eq!(rt; stated(1, 0, b"T,100,10", &mut again), Ok(14));
     assert!(rt; holds(&again, b"A,a,0,1\nS,0,0\n"));
-    Ok(())
 }
 
 #[test]
-fn a_page_of_exactly_the_right_length(rt: HostRuntime) -> Result<(), Fail> {
+fn a_page_of_exactly_the_right_length(rt: HostRuntime) {
     let mut page = [7u8; 14];
-    assert!(rt; is(statement(1, 0, b"T,100,10\n", &mut page), 0, 14));
+    assert_eq!(rt; stated(1, 0, b"T,100,10\n", &mut page), Ok(14));
     let mut short = [7u8; 13];
-    assert!(rt; is(statement(1, 0, b"T,100,10\n", &mut short), 21, 0));
+    assert_eq!(rt; stated(1, 0, b"T,100,10\n", &mut short), Err(21));
     assert!(rt; holds(&short, b""));
-    Ok(())
 }
 
 #[test]
-fn what_a_statement_refuses(rt: HostRuntime) -> Result<(), Fail> {
+fn what_a_statement_refuses(rt: HostRuntime) {
     let mut page = [7u8; 20];
-    assert!(rt; is(statement(0, 0, b"", &mut page), 2, 0));
-    assert!(rt; is(statement(5, 0, b"", &mut page), 2, 0));
-    assert!(rt; is(statement(1, 18_263, b"", &mut page), 2, 0));
-    assert!(rt; is(statement(1, 18_262, b"", &mut page), 22, 0));
+    assert_eq!(rt; stated(0, 0, b"", &mut page), Err(2));
+    assert_eq!(rt; stated(5, 0, b"", &mut page), Err(2));
+    assert_eq!(rt; stated(1, 18_263, b"", &mut page), Err(2));
+    assert_eq!(rt; stated(1, 18_262, b"", &mut page), Err(22));
     assert!(rt; holds(&page, b""));
-    assert!(rt; is(statement(4, 18_262, b"\n", &mut page), 0, 15));
+    assert_eq!(rt; stated(4, 18_262, b"\n", &mut page), Ok(15));
     assert!(rt; holds(&page, b"A,r,18,1\nS,0,0\n"));
-    Ok(())
 }
