@@ -1,10 +1,10 @@
 // The office's side of an account: events served, and the page that a statement is written on.
 #![tactic(auto)]
 
-pub mod entries;
+mod entries;
 pub mod fault;
-pub mod kept;
-pub mod page;
+mod kept;
+mod page;
 pub mod refused;
 pub mod serving;
 pub mod statement;
