@@ -1,4 +1,5 @@
-// The questions that several calls put, each with what a yes gives.
+// The questions that several calls put, each with what a yes gives. That is a fact about the account as it then stands, so it
+// is said by each question that gives it and kept in no type.
 ghost use Rattle.std.specs.Prelude.{◌≡◌, ℕ, ◌+◌, ◌<◌, ◌≤◌, length, nat_le, nat_lt};
 ghost use Rattle.rules.specs.Laid.{next_day};
 ghost use Rattle.rules.specs.Questions.{stands, is_term, sheet_room, journal_room};

@@ -89,6 +89,7 @@ impl<'a, T: Tariff> Account<'a, T> {
             &mut self.sheet,
             &mut self.journal,
         );
+        // counted where they were written, so that the sums rest on the journal itself
         let lines = (self.journal.filled - before) as u32;
         self.sums.correct(u, bills(f), lines);
         Ok(u)

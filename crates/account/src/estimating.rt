@@ -27,7 +27,7 @@ struct Estimating {
     late: bool,
 }
 
-/// The questions about the method: none where the row is late in its run.
+/// The questions about the method: none where the row is late in its run, a yes or no that `is_late` gives.
 fn ask_share<M: Method>(m: &M, late: bool, place: u64, term: Term) -> Result<(), Refusal>
     ensures { Asked (first_no (share_asked late (M.Method.meaning m.now) place term.first.figure term.last.figure)) (λ _. (late ≡ false → shares_fit (unread_by late term.first.figure term.last.figure (M.Method.meaning m.now)) ≡ true)) result }
 {

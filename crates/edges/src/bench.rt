@@ -63,7 +63,7 @@ impl<const ROWS: usize, const LINES: usize> Desk<ROWS, LINES> {
     }
 }
 
-/// The number of a call's answer: 0, or that of its refusal.
+/// The number of a call's answer, as the page prints it: 0, or that of its refusal.
 pub(crate) fn number<X: Drop>(answer: Result<X, Refusal>) -> u32 {
     answer.err().map_or(0, Refusal::number)
 }

@@ -44,7 +44,7 @@ impl<'a> Fields<'a> {
         }
     }
 
-    /// How many fields are left: one more than commas.
+    /// How many fields are left: one more than commas, or none after the last field.
     #[tactic(auto, using(crate::proofs::Steps::some_left))]
     fn count_left(&self) -> usize
         ensures { result ≡ length (fields_left self.now) }

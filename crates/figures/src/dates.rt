@@ -11,7 +11,7 @@ pub const LONGEST: u64 = 100;
 /// A day of an account, up to its last.
 pub type Day = UpTo<u64, 18_262>;
 
-/// How many days a billed period has.
+/// How many days a billed period has. It has a least value too, so it is no `UpTo`.
 #[derive(Clone, Copy)]
 pub struct Days {
     pub count: u64,

@@ -10,7 +10,7 @@ pub struct UpTo<F: Figure, const MOST: u64> {
     ghost ok: { F.size figure ≤ MOST },
 }
 
-// by hand, since no derive reaches a generic struct with a ghost field
+// by hand: `Clone` is not derived over a ghost field where the struct is generic
 impl<F: Figure, const MOST: u64> Clone for UpTo<F, MOST> {
     ghost is_clone = { λ s copy. copy ≡ s };
 

@@ -32,7 +32,8 @@ pub struct Span {
     pub last: u64,
 }
 
-/// What a correction rests on. It is ascertained where its dates are known: a flag alone, since the span stands either way.
+/// What a correction rests on. It is ascertained where its dates are known: a flag alone, since span and notice stand
+/// either way.
 #[derive(Clone, Copy)]
 pub struct Finding {
     pub cause: Cause,

@@ -17,7 +17,8 @@ use crate::uses::Uses;
 use figures::row::{Recorded, Row};
 use figures::units::{Demand, Register};
 
-/// No twin of the previous three: it asks another question, serves other uses and fits another span; the rest is `ThreeRows`.
+/// No twin of the previous three: it asks other questions, serves other uses and fits another span. What they share is
+/// `ThreeRows`; a trait for the two places beside a span would be longer than the lines it saves.
 #[derive(Clone, Copy)]
 pub struct LaterThree {
     pub three: ThreeRows,

@@ -11,7 +11,8 @@ use figures::row::Recorded;
 use figures::units::{Demand, Register};
 
 /// A method gives each row a weight, and the units N × weight ÷ D are shared over the rows by it: N is the upper number,
-/// D the lower. Weights and demands rest on a row's days and recorded registers alone.
+/// D the lower. Weights and demands rest on a row's days and recorded registers alone. Methods that answer alike each say so in
+/// a line: a default here could not be proved, since what is right is said by the meaning of each.
 pub trait Method {
     ghost CAUSES: { Named };
 

@@ -34,10 +34,7 @@ impl ThreeRows {
     pub fn new(rows: &[Row], from: u64) -> Option<ThreeRows>
         ensures { ReckonedFrom from (three_from from (map period_seen rows.now)) result }
     {
-        if from > rows.len() as u64 {
-            return None;
-        }
-        match &rows[from as usize..] {
+        match rows.get(from as usize..)? {
             [a, b, c, ..] => ThreeRows::of(from, a, b, c),
             _ => None,
         }

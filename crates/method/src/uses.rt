@@ -4,7 +4,7 @@ ghost use Rattle.method.specs.Uses.{use_of, named_in};
 
 use crate::finding::{Cause, Use};
 
-/// A set of uses: each is named or not.
+/// A set of uses: each is named or not, by a flag with no value beside it.
 #[derive(Clone, Copy)]
 pub struct Uses {
     pub estimates: bool,

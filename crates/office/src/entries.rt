@@ -21,7 +21,8 @@ impl From<Layer> for u8 {
     }
 }
 
-/// The letter of a journal line. No `From`: both types are of other crates.
+/// The letter of a journal line. No `From`: the letters belong to the page, and `figures`, where it would have to stand, knows
+/// of no page.
 fn letter(letter: Letter) -> u8
     ensures { result ≡ line_letter (letter_of letter) }
 {
@@ -38,20 +39,20 @@ impl<'a> Page<'a> {
         ensures { Wrote self.old self.new result (answer_line (layer_letter layer) number value) }
     {
         self.text(&[b'A', b',', layer.into(), b','])?;
-        self.figure(number as u64)?;
+        self.figure(u64::from(number))?;
         self.push(b',')?;
         self.cents(Money(value))?;
         self.push(b'\n')
     }
 
-    /// What a line of the text was answered: `A,layer,number,value`.
+    /// What a line of the text was answered: `A,layer,number,value`. The page's format has numbers, with 0 for an accepted line.
     #[inline(always)]
     pub fn answer(&mut self, outcome: Result<i64, Fault>) -> Result<(), Full>
         ensures { Wrote self.old self.new result (told outcome) }
     {
         match outcome {
             Ok(value) => self.answer_line(Layer::Account, 0, value),
-            Err(fault) => self.answer_line(fault.layer(), fault.number(), fault.value() as i64),
+            Err(fault) => self.answer_line(fault.layer(), fault.number(), i64::from(fault.value())),
         }
     }
 
@@ -60,7 +61,7 @@ impl<'a> Page<'a> {
         ensures { Wrote self.old self.new result (row_text row) }
     {
         match row {
-            Some(number) => self.figure(number as u64),
+            Some(number) => self.figure(u64::from(number)),
             None => self.push(b'-'),
         }
     }

@@ -56,7 +56,7 @@ impl Fault {
         }
     }
 
-    /// The reader points at a column; the account's refusals have the value 0.
+    /// The reader points at a column; the account's refusals have the value 0, as the page's format wants.
     pub fn value(self) -> u8
         ensures value { result ≡ fault_value self }
     {

@@ -11,7 +11,7 @@ use crate::kept::Page;
 use figures::money::Money;
 use itoa::Buffer;
 
-/// What was to be written does not fit the page.
+/// What was to be written does not fit the page. Not the book's `Full`, which rises by `?` nowhere.
 #[derive(Clone, Copy)]
 pub struct Full;
 

@@ -11,14 +11,15 @@ use events::event::Event;
 use events::read_event;
 use tariff::tariff::Tariff;
 
-/// Makes the call that an event asks for. The value is the hold, the cents billed or the cents paid.
+/// Makes the call that an event asks for. The value is the hold, the cents billed or the cents paid: one number on the page,
+/// whatever it counts.
 fn call<T: Tariff>(account: &mut Account<T>, event: Event) -> Result<i64, Refusal>
     ensures after { Stepped T.Tariff.meaning account.old account.new (call_of event) (answer_of result) }
 {
     match event {
         Event::Take { moment, span } => {
             let hold = account.take(moment, span)?;
-            Ok(hold as i64)
+            Ok(i64::from(hold))
         }
         Event::HandBack { hold } => {
             account.hand_back(hold)?;

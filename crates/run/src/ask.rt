@@ -2,7 +2,7 @@
 use figures::reported::{Cents, Reading};
 use method::finding::Finding;
 
-/// An estimate and a correction each bring a method of their own, which no line of a text carries yet: so this is no twin of
+/// An estimate and a correction each bring a method of their own, which no line of a text carries: so this is no twin of
 /// `events::event::Event`.
 #[derive(Clone, Copy)]
 pub enum Ask<M> {

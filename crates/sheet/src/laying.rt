@@ -25,7 +25,7 @@ pub(crate) struct Pair {
 pub(crate) const NONE: Pair = Pair { day: 0, peak: 0 };
 
 impl Pair {
-    /// Whether both shares keep the limit.
+    /// Whether both shares keep the limit: a yes or no, since a correction asks this of all its rows before it lays any down.
     pub(crate) fn fit(self) -> bool
         ensures { result ≡ pair_fits self.day self.peak }
     {

@@ -11,7 +11,7 @@ use std::process::ExitCode;
 /// Room for every result: at most 24 bytes to answer each of 65,536 lines, at most 40 for each of 1,024 journal lines, and the sums.
 const ROOM: usize = 1_614_000;
 
-/// What the arguments ask for.
+/// What the arguments ask for; a tariff goes by its number, as in the office.
 #[derive(Clone, Copy)]
 struct Asked {
     tariff: u32,

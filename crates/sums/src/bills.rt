@@ -3,7 +3,7 @@ ghost use Rattle.std.specs.Prelude.{◌≤◌};
 
 use figures::reported::Cents;
 
-/// How many bills an undercharge is spread over.
+/// How many bills an undercharge is spread over: at least one, and with no most, so it is no `UpTo`.
 #[derive(Clone, Copy)]
 pub struct Bills {
     pub count: u64,

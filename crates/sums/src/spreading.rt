@@ -49,7 +49,8 @@ impl Coming {
     }
 
     /// Raises the place of each bill that the undercharge is spread over by what that bill brings.
-    /// How low the places are depends on the lines that `Sums` counts, so it is asked here.
+    /// How low the places are depends on the lines that `Sums` counts, so it is asked here. The places are cut by a slice:
+    /// after `take` no proof knows what the places beyond hold.
     pub fn spread(&mut self, s: Spreading)
         requires { Low self.old.places 1024 }
         ensures { map seen self.new.places ≡ spread-over s.cents.0 s.bills.count 1 (map seen self.old.places) }
