@@ -43,15 +43,22 @@ def sources(folder):
 
 
 def functions(folder):
-    """Each function: its file and name, its parameters' names, its body."""
+    """Each function: its file and name, its parameters' names, its body, empty where it has none."""
     for path in sorted(glob.glob(os.path.join(folder, 'crates/*/src/*.rt'))):
         text = open(path).read()
-        for m in re.finditer(r'fn (\w+)(?:<[^(]*>)?\(([^)]*)\)', text):
-            names = re.findall(r'(\w+)\s*:', m.group(2))
-            start = text.find('\n    {', m.end())
-            body = re.search(r'\n(\s*)\{\n(.*?)\n\1\}', text[m.end():], re.S)
-            body = re.sub(r'\s+', ' ', body.group(2)) if body else ''
-            yield os.path.relpath(path, folder), m.group(1), names, body
+        for m in re.finditer(r'^([ ]*)(?:pub(?:\(crate\))? )?(?:extern "C" )?fn (\w+)(?:<[^(]*>)?\(([^)]*)\)', text, re.M):
+            names = re.findall(r'(\w+)\s*:', m.group(3))
+            indent, body, inside = m.group(1), [], False
+            for line in text[m.end():].split('\n'):
+                if not inside and line.endswith(';') and ' = ' not in line:
+                    break
+                if inside and line == indent + '}':
+                    break
+                if inside:
+                    body.append(line.strip())
+                elif line == indent + '{' or (line.endswith(' {') and not re.search(r'requires|ensures', line)):
+                    inside = True
+            yield os.path.relpath(path, folder), m.group(2), names, ' '.join(body)
 
 
 def twins(folder):

@@ -91,7 +91,7 @@ pub(crate) fn reading(day: u64, peak: u64, demand: u64) -> Reading {
     }
 }
 
-/// A finding by the supplier, not ascertained.
+/// A finding by the supplier, not ascertained; four plain figures, so that a test's line is short.
 pub(crate) fn found(cause: Cause, notice: u64, first: u64, last: u64) -> Finding {
     Finding {
         cause,

@@ -56,7 +56,7 @@ impl<'a> Page<'a> {
         self.text(Buffer::new().format(n).as_bytes())
     }
 
-    /// A signed amount, with a minus where it is below zero.
+    /// A signed amount, with a minus where it is below zero. Beside `figure`, since each says its text by a definition of its own.
     #[inline(always)]
     pub fn cents(&mut self, amount: Money) -> Result<(), Full>
         ensures { Wrote self.old self.new result (signed_decimal amount.0) }
