@@ -21,7 +21,7 @@ pub(crate) struct Pair {
     pub peak: u64,
 }
 
-/// No rows weigh nothing.
+/// The weights of no rows.
 pub(crate) const NONE: Pair = Pair { day: 0, peak: 0 };
 
 impl Pair {
@@ -54,11 +54,7 @@ pub(crate) fn rewrites(f: &Finding, i: u64, row: &Row) -> bool
 fn rewrites_sort(c: Cause, s: Sort) -> bool
     ensures { result ≡ rewrites_sort (cause_of c) (sort_of s) }
 {
-    match (c, s) {
-        (Cause::Absent, Sort::Estimated) => true,
-        (Cause::Absent, _) => false,
-        _ => true,
-    }
+    c != Cause::Absent || s == Sort::Estimated
 }
 
 /// The whole units that rows of this weight get together.

@@ -14,12 +14,7 @@ use method::finding::{Cause, Finding, Side};
 fn of_sort(c: Cause, s: Sort) -> bool
     ensures { result ≡ of_sort (cause_of c) (sort_of s) }
 {
-    match (c, s) {
-        (Cause::Absent, Sort::Read) => false,
-        (Cause::Absent, _) => true,
-        (_, Sort::Read) => true,
-        _ => false,
-    }
+    (c == Cause::Absent) != (s == Sort::Read)
 }
 
 impl<'a> Found<'a> {
