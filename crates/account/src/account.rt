@@ -14,7 +14,8 @@ pub struct Hold {
     pub until: u64,
 }
 
-/// The sums hold what the journal's lines moved, so each is small while the journal is.
+/// The sums hold what the journal's lines moved, so each is small while the journal is. Each of the calls takes by name what a
+/// clerk's call carries: a struct of hold, finding or method would be made for one call and taken apart in it.
 #[derive(Drop)]
 pub struct Account<'a, T> {
     pub(crate) tariff: T,

@@ -21,7 +21,8 @@ const ROWS: usize = 120;
 const LINES: usize = 1024;
 
 impl<'a, T: Tariff> Account<'a, T> {
-    /// An account that opens on `day`, over a memory for its rows and one for its lines.
+    /// An account that opens on `day`, over a memory for its rows and one for its lines, lent apart since either may be as large
+    /// as the caller likes.
     pub fn open(
         tariff: T,
         day: u64,

@@ -68,7 +68,7 @@ pub(crate) fn number<X: Drop>(answer: Result<X, Refusal>) -> u32 {
     answer.err().map_or(0, Refusal::number)
 }
 
-/// Cents, or minus the number of a refusal.
+/// Cents, or minus the number of a refusal: one figure, so that a test's line compares either.
 pub(crate) fn cents(answer: Result<Charge, Refusal>) -> i64 {
     answer.map_or_else(|e| -i64::from(e.number()), |charge| Money::from(charge).0)
 }

@@ -4,7 +4,7 @@ use office::refused::Refused;
 use office::statement::statement;
 use std::test::*;
 
-/// The number and the value of the reader's answer.
+/// The number and the value of the reader's answer, as the page prints them.
 fn fault(line: &[u8]) -> (u32, u8) {
     read_event(line)
         .err()
@@ -53,7 +53,7 @@ fn holds(page: &[u8], expected: &[u8]) -> bool {
         .is_some_and(|rest| rest.iter().all(|b| *b == 0))
 }
 
-/// The bytes of a statement's result, or the number of its refusal.
+/// The bytes of a statement's result, or the number of its refusal, as C reads it.
 fn stated(tariff: u32, opening: u32, text: &[u8], page: &mut [u8]) -> Result<usize, u32> {
     statement(tariff, opening, text, page).map_err(Refused::number)
 }

@@ -30,7 +30,7 @@ impl ThreeRows {
         })
     }
 
-    /// Rows `from` to `from` + 2, where they are billed and read.
+    /// Rows `from` to `from` + 2, where they are billed and read; rows and number are lent for the making alone.
     pub fn new(rows: &[Row], from: u64) -> Option<ThreeRows>
         ensures { ReckonedFrom from (three_from from (map period_seen rows.now)) result }
     {

@@ -30,6 +30,7 @@ impl<'a> Page<'a> {
         if self.at == self.bytes.len() {
             return Err(Full);
         }
+        // the bytes are lent, so the next place is an index, here and in `text`
         self.bytes[self.at] = byte;
         self.at += 1;
         Ok(())

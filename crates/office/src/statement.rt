@@ -19,7 +19,8 @@ use tariff::hotel::{h1, h2, h2_time_of_day};
 use tariff::plain::Plain;
 use tariff::tariff::Tariff;
 
-/// The statement of a text under one tariff; a refused one leaves anything on the page.
+/// The statement of a text under one tariff; a refused one leaves anything on the page. Its promise is said here, where the
+/// tariff is chosen, and where the page is cleared, each time of another page or another tariff.
 fn statement_under<T: Tariff + Drop>(
     tariff: T,
     opening: u64,
@@ -30,7 +31,7 @@ fn statement_under<T: Tariff + Drop>(
         ((2, is_day opening) ∷ text_asked (T.Tariff.meaning tariff) (opened_on opening) text.now (length page.old))
         text.now page.old (cleared result page.new) (number_of result) (value_of result) }
 {
-    // arrays as large as an account can use: the project has no heap here
+    // arrays as large as an account can use: there is no heap here
     let mut rows = [BLANK; 120];
     let mut journal = [EMPTY; 1024];
     let Ok(mut account) = Account::open(tariff, opening, &mut rows, &mut journal) else {

@@ -4,7 +4,7 @@ ghost use Rattle.office.specs.Refusals.{number_of, value_of};
 
 use office::refused::Refused;
 
-/// The number of the question that was answered no, or 0, and the bytes of the result.
+/// The number of the question that was answered no, or 0, and the bytes of the result: two numbers, since C has no Result.
 #[repr(C)]
 #[derive(Clone, Copy)]
 pub struct Answer {

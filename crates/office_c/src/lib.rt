@@ -9,7 +9,8 @@ ghost use Rattle.office.specs.Office.{opened_on, asked, Stated, LawfulPage};
 
 pub use answer::Answer;
 
-/// The statement of a text under the tariff of this number, for an account that opens on this day.
+/// The statement of a text under the tariff of this number, by which C names it, for an account that opens on this day. The
+/// clauses are the statement's, said again: no contract passes through a call by itself.
 #[unsafe(no_mangle)]
 pub extern "C" fn statement(tariff: u32, opening: u32, text: &[u8], page: &mut [u8]) -> Answer
     ensures after { Stated (numbered tariff) (opened_on opening) (asked tariff opening text.now (length page.old))

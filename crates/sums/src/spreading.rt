@@ -40,7 +40,7 @@ impl Coming {
         }
     }
 
-    /// The first is taken off, the others move up, and the twelfth becomes empty.
+    /// The first is taken off, the others move up, and the twelfth, which is always there, becomes empty.
     pub fn advance(&mut self)
         ensures { map seen self.new.places ≡ moved_up (map seen self.old.places) }
     {
