@@ -1,7 +1,6 @@
 -- What a correction rests on. Assumes nothing.
-use Rattle.std.proofs.Common.{◌≡◌, ℕ, ◌+◌, ◌<◌, ◌≤◌, true, false, ◌&&◌, ltb, leb, ◌⊎◌, List, map, length, ℤ, sym, refl, ap, ◌∙◌, ap₂, ⊎_elim, arith}
-use Rattle.std.proofs.lemmas.List.{length-map}
-use Rattle.std.proofs.lemmas.Bool.{and_from, and_left, and_right, and_parts, le-leb, lt-leb, lt-ltb, le-ltb, leb-true, ltb-true}
+use Rattle.std.proofs.Common.{◌≡◌, ℕ, ◌+◌, ◌<◌, ◌≤◌, true, ltb, leb, length, ℤ, sym, refl, ap, ◌∙◌, ap₂, arith}
+use Rattle.std.proofs.lemmas.Bool.{and_parts, leb-true, ltb-true}
 use Rattle.rules.specs.Subject.{Tariff, Opening, Finding, Method, correct}
 use Rattle.rules.specs.Laid.{rewritten, corrected}
 use Rattle.rules.specs.Questions.{question, asked, all_fit, bills}
@@ -14,18 +13,6 @@ use Rattle.sums.specs.View.{totals, corrected_by}
 use Rattle.account.specs.declared.account.Account.{Account}
 use Rattle.account.specs.State.{state_of, opening_of}
 use Rattle.account.proofs.Calls.{all_yes, room_said, periods_length, made}
-use Rattle.figures.specs.declared.row.Row.{Row}
-use Rattle.sheet.specs.Rows.{periods}
-
-pub length-periods : (rows : List Row) → length (periods rows) ≡ length rows
-length-periods rows = length-map (map _ rows) _ ∙ length-map rows _
-
-pub billed_yes : (first last : ℕ) (rows : List Row) → first ≤ last → last < length rows → (leb first last && ltb last (length (periods rows))) ≡ true
-billed_yes first last rows h k = (and_from _ _ (le-leb first last h) (lt-ltb last (length (periods rows)) (omega (arith, length-periods rows))))
-
-pub billed_no : (first last : ℕ) (rows : List Row) → (last < first) ⊎ ((first ≤ last) × (length rows ≤ last)) → (leb first last && ltb last (length (periods rows))) ≡ false
-billed_no first last rows h =
-    (⊎_elim (λ a. and_left _ _ (lt-leb first last a)) (λ b. and_right _ _ (le-ltb last (length (periods rows)) (omega (arith, b.1, length-periods rows)))) h)
 
 -- what an accepted correction knows
 pub record Correctable {T : Type 0} (a : Account T) (f : Finding) (m : Method) : Type 0 where

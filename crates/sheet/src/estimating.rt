@@ -39,7 +39,8 @@ pub fn share_fits<M: Method>(m: &M, row: &Row) -> bool
     shares(m, NONE, weigh(m, row)).fit()
 }
 
-/// The unmetered row for a period, with its charge; `late` is the answer to one question and no value goes with it: the method's share for it alone, or zeros where it is late in its run.
+/// The unmetered row for a period, with its charge: the method's share for it alone, or zeros where it is late in its run.
+/// `late` is the answer to that one question, and no value goes with it.
 pub fn unread<T: Tariff, M: Method>(tariff: &mut T, m: &M, late: bool, term: Term) -> Row
     requires { late ≡ false → shares_fit (unread_by late term.first.figure term.last.figure (M.Method.meaning m.now)) ≡ true }
     ensures row { seen result ≡ row_of (T.Tariff.meaning tariff.old) (unread_by late term.first.figure term.last.figure (M.Method.meaning m.now)) }
