@@ -6,7 +6,7 @@ use Rattle.events.specs.declared.event.Event.{Event}
 use Rattle.events.specs.declared.fault.ReaderFault.{ReaderFault}
 use Rattle.events.specs.declared.fault.ReaderFault.TheVariants.{Shape}
 use Rattle.events.specs.Lines.{fields, placed}
-use Rattle.events.specs.Events.{Form, t_line, h_line, b_line, p_line, letter_of, event_in, event_with, event_from, event_of}
+use Rattle.events.specs.Events.{Form, t_line, h_line, b_line, e_line, c_line, p_line, letter_of, event_in, event_with, event_from, event_of}
 
 -- the form of a line that begins with a letter and a comma
 abbrev pub begins : List ℕ → Option Form
@@ -16,6 +16,8 @@ no_fields : (k : Form) → event_in k [] ≡ Err Shape
 no_fields t_line = refl
 no_fields h_line = refl
 no_fields b_line = refl
+no_fields e_line = refl
+no_fields c_line = refl
 no_fields p_line = refl
 
 -- b and e: the first byte is a comma, and the second

@@ -1,8 +1,9 @@
 -- What a walk over the fields of a line has yet to hand out. Assumes nothing.
-use Rattle.std.specs.Prelude.{ℕ, List, [], Some, None, Option}
+use Rattle.std.specs.Prelude.{ℕ, List, [], Some, None, Ok, Err, Option, Result}
 use Rattle.std.specs.Borrow.{Bor}
 use Rattle.events.specs.declared.fields.Fields.{Fields}
 use Rattle.events.specs.declared.fields.Field.{Field}
+use Rattle.events.specs.declared.fault.ReaderFault.{ReaderFault}
 use Rattle.events.specs.Lines.{fields, placed}
 
 -- a field, as its column and its bytes
@@ -16,3 +17,8 @@ fields_from column (Some rest) = placed column (fields rest.now)
 
 abbrev pub fields_left : Fields → List (ℕ × List ℕ)
 fields_left f = fields_from f.column f.rest
+
+-- what was read, and the fields that the walk has then yet to hand out
+abbrev pub with_left : {A : Type 0} → Result A ReaderFault → Fields → Result (A × List (ℕ × List ℕ)) ReaderFault
+with_left (Ok x) f = Ok (x, fields_left f)
+with_left (Err e) f = Err e

@@ -1,6 +1,9 @@
 pub mod Faults
 pub mod Lines
 pub mod Figures
+pub mod Letters
+pub mod Places
+pub mod Corrections
 pub mod Events
 pub mod Walks
 pub mod Fields

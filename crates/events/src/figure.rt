@@ -1,20 +1,48 @@
-// A figure in a field.
+// Figures in fields, each in its unit.
 ghost use Rattle.std.specs.Prelude.{◌≡◌};
-ghost use Rattle.events.specs.Figures.{figure_of};
+ghost use Rattle.events.specs.Figures.{figure_of, kwh_of, kva_of, cents_of};
 
-/// The number that the field writes, where it holds a lawful figure.
-pub(crate) fn read_figure(field: &[u8]) -> Option<u64>
-    ensures value { result ≡ figure_of field.now }
-{
-    if field.len() > 13 || matches!(field, [] | [b'0', _, ..]) {
-        return None;
-    }
-    let mut number = 0;
-    for digit in field {
-        if !digit.is_ascii_digit() {
+use crate::field::FromField;
+use figures::reported::{Cents, Kva, Kwh};
+
+impl FromField for u64 {
+    ghost of = { figure_of };
+
+    fn from_field(field: &[u8]) -> Option<u64> {
+        if field.len() > 13 || matches!(field, [] | [b'0', _, ..]) {
             return None;
         }
-        number = number * 10 + u64::from(*digit - b'0');
+        let mut number = 0;
+        for digit in field {
+            if !digit.is_ascii_digit() {
+                return None;
+            }
+            number = number * 10 + u64::from(*digit - b'0');
+        }
+        Some(number)
     }
-    Some(number)
+}
+
+impl FromField for Kwh {
+    ghost of = { kwh_of };
+
+    fn from_field(field: &[u8]) -> Option<Kwh> {
+        Some(Kwh(u64::from_field(field)?))
+    }
+}
+
+impl FromField for Kva {
+    ghost of = { kva_of };
+
+    fn from_field(field: &[u8]) -> Option<Kva> {
+        Some(Kva(u64::from_field(field)?))
+    }
+}
+
+impl FromField for Cents {
+    ghost of = { cents_of };
+
+    fn from_field(field: &[u8]) -> Option<Cents> {
+        Some(Cents(u64::from_field(field)?))
+    }
 }

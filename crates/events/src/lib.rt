@@ -3,8 +3,10 @@
 
 pub mod event;
 pub mod fault;
+mod field;
 mod fields;
 mod figure;
+mod letters;
 pub mod lines;
 mod read;
 mod walk;

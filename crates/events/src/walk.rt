@@ -1,24 +1,16 @@
 // The walk over the fields of a line.
-ghost use Rattle.std.specs.Prelude.{◌≡◌, ◌<◌, ◌≤◌, ◌+◌, length, if◌then◌else◌, Ok, Err, nat_eq};
+ghost use Rattle.std.specs.Prelude.{◌≡◌, ◌≤◌, length, if◌then◌else◌, Ok, Err, nat_eq};
 ghost use Rattle.std.specs.Iterator.{YieldsFirstBy, item_count};
 ghost use Rattle.events.specs.declared.fault.ReaderFault.TheVariants.{Shape};
 ghost use Rattle.events.specs.Lines.{fields, placed};
-ghost use Rattle.events.specs.Events.{with_figure, figures, figure_at};
-ghost use Rattle.events.specs.Fields.{field_of, fields_left};
+ghost use Rattle.events.specs.Places.{field, unused};
+ghost use Rattle.events.specs.Fields.{field_of, fields_left, with_left};
 
 use crate::fault::ReaderFault;
+use crate::field::FromField;
 use crate::fields::{Field, Fields};
-use crate::figure::read_figure;
+use crate::letters::Unused;
 use crate::lines::split_at_first;
-
-impl<'a> Field<'a> {
-    /// The figure in the field.
-    fn figure(self) -> Result<u64, ReaderFault>
-        ensures value { result ≡ figure_at self.entry.column self.entry.bytes.now }
-    {
-        read_figure(self.bytes).ok_or(ReaderFault::Field(self.column))
-    }
-}
 
 impl<'a> Fields<'a> {
     /// The fields of what stands after a line's letter and its comma, which take two columns.
@@ -29,18 +21,6 @@ impl<'a> Fields<'a> {
         Fields {
             rest: Some(rest),
             column: 3,
-        }
-    }
-
-    /// The figure in the next field.
-    fn figure(&mut self) -> Result<u64, ReaderFault>
-        requires { 0 < length (fields_left self.old) }
-        ensures value { figures (fields_left self.old) ≡ with_figure result (figures (fields_left self.new)) }
-        ensures after { length (fields_left self.old) ≡ 1 + length (fields_left self.new) }
-    {
-        match self.next() {
-            Some(field) => field.figure(),
-            None => unreachable(),
         }
     }
 
@@ -55,18 +35,32 @@ impl<'a> Fields<'a> {
         }
     }
 
-    /// The figures in the fields that are left, where those are as many as the form asks.
-    pub(crate) fn figures<const N: usize>(mut self) -> Result<[u64; N], ReaderFault>
-        ensures value { result ≡ (if nat_eq (length (fields_left self.entry)) N then figures (fields_left self.entry) else Err Shape) }
+    /// Are as many fields left as the form asks?
+    pub(crate) fn expect(&self, asked: usize) -> Result<(), ReaderFault>
+        ensures value { result ≡ (if nat_eq (length (fields_left self.now)) asked then Ok tt else Err Shape) }
     {
-        if self.count_left() != N {
+        if self.count_left() != asked {
             return Err(ReaderFault::Shape);
         }
-        let mut figures = [0; N];
-        for figure in figures.iter_mut() {
-            *figure = self.figure()?;
+        Ok(())
+    }
+
+    /// What the next field holds.
+    pub(crate) fn parse<T: FromField>(&mut self) -> Result<T, ReaderFault>
+        ensures value { field T.FromField.of (fields_left self.old) ≡ with_left result self.new }
+    {
+        let field = self.next().ok_or(ReaderFault::Shape)?;
+        T::from_field(field.bytes).ok_or(ReaderFault::Field(field.column))
+    }
+
+    /// The fields that are left hold 0.
+    pub(crate) fn unused(self) -> Result<(), ReaderFault>
+        ensures value { result ≡ unused (fields_left self.entry) }
+    {
+        for field in self {
+            Unused::from_field(field.bytes).ok_or(ReaderFault::Field(field.column))?;
         }
-        Ok(figures)
+        Ok(())
     }
 }
 

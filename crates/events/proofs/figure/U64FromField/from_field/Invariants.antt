@@ -1,7 +1,7 @@
 use Rattle.std.proofs.Common.{◌≡◌, ◌^◌, ◌<◌, drop}
 use Rattle.std.specs.Str.{all_ascii_digits}
 use Rattle.events.specs.Figures.{number_on}
-use Rattle.events.proofs.figure.read_figure.Given as goal
+use Rattle.events.proofs.figure.U64FromField.from_field.Given as goal
 
 abbrev pub invariant-loop-digit : goal.invariant-loop-digit
 invariant-loop-digit l = record {

@@ -1,6 +1,6 @@
 use Rattle.std.proofs.Common.{ℕ, ◌^◌, ◌<◌, ◌≤◌, arith, lit<}
 use native.Mathlib.Nat.{pow-le-pow_right}
-use Rattle.events.proofs.figure.read_figure.Goals as goal
+use Rattle.events.proofs.figure.U64FromField.from_field.Goals as goal
 
 -- twelve digits leave room for one more
 room : (v i : ℕ) → v < 10 ^ i → i < 13 → v < 10 ^ 12

@@ -1,0 +1,11 @@
+// What a field of a line can hold.
+ghost use Rattle.std.specs.Prelude.{◌≡◌, ℕ, List, Option};
+
+/// A value that stands in one field.
+pub(crate) trait FromField: Sized {
+    ghost of: { List ℕ → Option Self };
+
+    /// The value that the field writes, where it holds a lawful one.
+    fn from_field(field: &[u8]) -> Option<Self>
+        ensures value { result ≡ of field.now };
+}
