@@ -38,12 +38,6 @@ by_fields (c ∷ []) = one_byte c (eqb c 44)
 by_fields (c ∷ d ∷ xs) =
     two_bytes c d (fields xs) (eqb c 44) (eqb d 44) (eqb-true c 44) ∙ simp (le-ltb (length (c ∷ d ∷ xs)) 2 (omega arith))
 
--- a short line of this letter, and of none
-pub chosen : (xs : List ℕ) (c : ℕ) (k : Form) (r : Result Event ReaderFault) → length xs ≤ 140 → 2 ≤ length xs → get_or xs 0 0 ≡ c → get_or xs 1 0 ≡ 44 → letter_of c ≡ Some k → r ≡ event_in k (placed 3 (fields (take (length xs - 2) (drop 2 xs)))) → r ≡ event_of xs
-chosen xs c k r short long first comma is e =
-    let b : begins xs ≡ Some k = simp (le-ltb (length xs) 2 long, eq-eqb _ _ comma, first) is in
-    let f : event_from (fields xs) ≡ event_in k (placed 3 (fields (drop 2 xs))) = by_fields xs ∙ ap (λ o. event_with o (placed 3 (fields (drop 2 xs)))) b in
-    e ∙ ap (λ l. event_in k (placed 3 (fields l))) (take_rest xs 2) ∙ sym f ∙ sym (simp (le-ltb 140 (length xs) short))
-
+-- a short line of no form
 pub unchosen : (xs : List ℕ) → length xs ≤ 140 → begins xs ≡ None → Err Shape ≡ event_of xs
 unchosen xs short is = sym (simp (le-ltb 140 (length xs) short) (by_fields xs ∙ ap (λ o. event_with o (placed 3 (fields (drop 2 xs)))) is))

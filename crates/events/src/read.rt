@@ -130,7 +130,6 @@ fn read_pay(mut fields: Fields<'_>) -> Result<Event, ReaderFault>
     Ok(Event::Pay { hold, cents })
 }
 
-#[tactic(auto, using(crate::proofs::Begins::unchosen))]
 /// The event that a line carries: its first two bytes choose the form, and the rest is its fields.
 pub fn read_event(line: &[u8]) -> Result<Event, ReaderFault>
     ensures value { result ≡ event_of line.now }

@@ -1,0 +1,18 @@
+use Rattle.std.proofs.Common.{rules}
+use Rattle.events.proofs.Begins.{unchosen}
+use Rattle.events.proofs.read.read_event.Goals as goal
+
+pub returns-in_default-4 : goal.returns-in_default-4
+returns-in_default-4 c = record { value = unchosen c.args.line.now c.if-line-gt140.false (search rules) }
+
+pub returns-in_default-5 : goal.returns-in_default-5
+returns-in_default-5 c = record { value = unchosen c.args.line.now c.if-line-gt140.false (search rules) }
+
+pub returns-in_default-6 : goal.returns-in_default-6
+returns-in_default-6 c = record { value = unchosen c.args.line.now c.if-line-gt140.false (search rules) }
+
+pub returns-in_default-7 : goal.returns-in_default-7
+returns-in_default-7 c = record { value = unchosen c.args.line.now c.if-line-gt140.false (search rules) }
+
+pub returns-in_default-8 : goal.returns-in_default-8
+returns-in_default-8 c = record { value = unchosen c.args.line.now c.if-line-gt140.false (search rules) }
