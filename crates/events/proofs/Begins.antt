@@ -1,9 +1,6 @@
 -- A line by its first two bytes, and by its fields.
-use Rattle.std.proofs.Common.{◌≡◌, ℕ, ◌-◌, ◌≤◌, Bool, true, false, cond, eqb, ltb, List, [], ◌∷◌, length, get_or, take, drop, Some, None, Option, Err, Result, sym, refl, ap, ◌∙◌, arith, le-ltb, eq-eqb, eqb-true}
+use Rattle.std.proofs.Common.{◌≡◌, ℕ, ◌≤◌, Bool, true, false, cond, eqb, ltb, List, [], ◌∷◌, length, get_or, drop, Some, None, Option, Err, sym, refl, ap, ◌∙◌, arith, le-ltb, eqb-true}
 use Rattle.std.specs.List.{onto_first}
-use Rattle.std.proofs.lemmas.List.{take_rest}
-use Rattle.events.specs.declared.event.Event.{Event}
-use Rattle.events.specs.declared.fault.ReaderFault.{ReaderFault}
 use Rattle.events.specs.declared.fault.ReaderFault.TheVariants.{Shape}
 use Rattle.events.specs.Lines.{fields, placed}
 use Rattle.events.specs.Events.{Form, t_line, h_line, b_line, e_line, c_line, p_line, letter_of, event_in, event_with, event_from, event_of}

@@ -1,13 +1,19 @@
 -- Fields read one after another, each beside the column at which it begins. Assumes nothing.
-use Rattle.std.specs.Prelude.{ℕ, List, [], ◌∷◌, Some, None, Ok, Err, Option, Result}
+use Rattle.std.specs.Prelude.{ℕ, List, [], ◌∷◌, Ok, Err, Option, Result}
+use Rattle.std.specs.Option.{ok_or}
+use Rattle.std.specs.Result.{result_and}
 use Rattle.events.specs.declared.fault.ReaderFault.{ReaderFault}
 use Rattle.events.specs.declared.fault.ReaderFault.TheVariants.{Shape, Field}
 use Rattle.events.specs.Letters.{unused_of}
 
--- what the first field holds, where that is lawful, and the fields after it
+-- what a field holds, where that is lawful
+abbrev pub lawful : {A : Type 0} → (List ℕ → Option A) → ℕ × List ℕ → Result A ReaderFault
+lawful of f = ok_or (of f.1) (Field f.0)
+
+-- what the first field holds, and the fields after it
 abbrev pub field : {A : Type 0} → (List ℕ → Option A) → List (ℕ × List ℕ) → Result (A × List (ℕ × List ℕ)) ReaderFault
 field of [] = Err Shape
-field of (f ∷ fs) = elim (of f.1) [ Some x ↦ Ok (x, fs) | None ↦ Err (Field f.0) ]
+field of (f ∷ fs) = elim (lawful of f) [ Ok x ↦ Ok (x, fs) | Err e ↦ Err e ]
 
 -- what was read and the fields after it, handed on
 abbrev pub on : {A B : Type 0} → Result (A × List (ℕ × List ℕ)) ReaderFault → (A → List (ℕ × List ℕ) → Result B ReaderFault) → Result B ReaderFault
@@ -21,4 +27,4 @@ read of fs next = on (field of fs) next
 -- each field holds 0
 abbrev pub unused : List (ℕ × List ℕ) → Result (Unit {0}) ReaderFault
 unused [] = Ok tt
-unused (f ∷ fs) = elim (unused_of f.1) [ Some u ↦ unused fs | None ↦ Err (Field f.0) ]
+unused (f ∷ fs) = result_and (lawful unused_of f) (unused fs)

@@ -3,7 +3,7 @@ ghost use Rattle.std.specs.Prelude.{◌≡◌, ◌≤◌, length, if◌then◌el
 ghost use Rattle.std.specs.Iterator.{YieldsFirstBy, item_count};
 ghost use Rattle.events.specs.declared.fault.ReaderFault.TheVariants.{Shape};
 ghost use Rattle.events.specs.Lines.{fields, placed};
-ghost use Rattle.events.specs.Places.{field, unused};
+ghost use Rattle.events.specs.Places.{lawful, field, unused};
 ghost use Rattle.events.specs.Fields.{field_of, fields_left, with_left};
 
 use crate::fault::ReaderFault;
@@ -11,6 +11,15 @@ use crate::field::FromField;
 use crate::fields::{Field, Fields};
 use crate::letters::Unused;
 use crate::lines::split_at_first;
+
+impl<'a> Field<'a> {
+    /// What the field holds.
+    fn parse<T: FromField>(self) -> Result<T, ReaderFault>
+        ensures value { result ≡ lawful T.FromField.of (field_of self.entry) }
+    {
+        T::from_field(self.bytes).ok_or(ReaderFault::Field(self.column))
+    }
+}
 
 impl<'a> Fields<'a> {
     /// The fields of what stands after a line's letter and its comma, which take two columns.
@@ -49,8 +58,7 @@ impl<'a> Fields<'a> {
     pub(crate) fn parse<T: FromField>(&mut self) -> Result<T, ReaderFault>
         ensures value { field T.FromField.of (fields_left self.old) ≡ with_left result self.new }
     {
-        let field = self.next().ok_or(ReaderFault::Shape)?;
-        T::from_field(field.bytes).ok_or(ReaderFault::Field(field.column))
+        self.next().ok_or(ReaderFault::Shape)?.parse()
     }
 
     /// The fields that are left hold 0.
@@ -58,7 +66,7 @@ impl<'a> Fields<'a> {
         ensures value { result ≡ unused (fields_left self.entry) }
     {
         for field in self {
-            Unused::from_field(field.bytes).ok_or(ReaderFault::Field(field.column))?;
+            let Unused = field.parse()?;
         }
         Ok(())
     }
