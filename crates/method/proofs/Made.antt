@@ -1,14 +1,19 @@
 -- What the code makes is the method that is meant. Assumes nothing.
-use Rattle.std.proofs.Common.{◌≡◌, ℕ, zero, suc, ◌+◌, ◌*◌, ◌/◌, Ok, refl, ap, arith}
-use Rattle.rules.specs.Subject.{Method}
+use Rattle.std.proofs.Common.{◌≡◌, ℕ, zero, suc, ◌+◌, ◌*◌, ◌/◌, Bool, true, List, Ok, refl, ap, arith}
+use Rattle.rules.specs.Subject.{Period, Use, Method}
 use Rattle.rules.specs.Questions.{first_no}
 use Rattle.method.specs.declared.test_meter.TestMeter.{TestMeter}
 use Rattle.method.specs.declared.category.Category.{Category}
 use Rattle.method.specs.declared.contract_demand.ContractDemand.{ContractDemand}
-use Rattle.method.specs.Meaning.{part, daily, test_fits}
-use Rattle.method.specs.Making.{test_asked, category_asked, contract_asked}
-use Rattle.method.specs.Made.{made_if, test_made, category_made, contract_made}
-use Rattle.method.specs.Meant.{test_of, category_of, contract_of}
+use Rattle.method.specs.declared.three_rows.ThreeRows.{ThreeRows}
+use Rattle.method.specs.declared.previous_three.PreviousThree.{PreviousThree}
+use Rattle.method.specs.declared.later_three.LaterThree.{LaterThree}
+use Rattle.method.specs.Meaning.{part, daily, test_fits, of_both, stopping, missing, just_before, just_after}
+use Rattle.method.specs.Three.{three_from, are_three}
+use Rattle.method.specs.Making.{test_asked, category_asked, contract_asked, previous_asked, later_asked}
+use Rattle.method.specs.Made.{made_if, test_made, category_made, contract_made, of_three, previous_made, later_made}
+use Rattle.method.specs.Meant.{test_of, category_of, contract_of, three_of, previous_of, later_of}
+use Rattle.method.specs.Reckoned.{Reckoned}
 use Rattle.method.proofs.Same.{same_method}
 
 -- q is the number of the first no, or 0
@@ -32,3 +37,14 @@ contract_made_of m kva utilization power load s all is-kva is-utilization is-pow
     (λ e. same_method (contract_of m) _ refl refl
     (λ i k. daily (is-kva i) (is-utilization i) (is-power i) (is-load i) * part k (is-s i))
     refl refl (λ i days r. (is-kva i * is-utilization i + 99) / 100))
+
+-- for any uses, and any spans that rest on the first row's number
+three_same : (uses : Use → Bool) (fitness : ℕ → Use → ℕ → ℕ → Bool) (t : ThreeRows) (f : ℕ) (ps : List Period) (are : are_three ps ≡ true) → t.from ≡ f → Reckoned t ps → three_of uses (fitness t.from) t ≡ of_three uses (fitness f) ps are
+three_same uses fitness t f ps are is r =
+    same_method _ _ refl (ap fitness is) (λ i. of_both (r.day i) (r.peak i)) r.days refl (λ i days g. r.demand i)
+
+pub previous_made_of : (m : PreviousThree) (f : ℕ) (ps : List Period) → first_no (previous_asked f ps) ≡ 0 → m.three.from ≡ f → Reckoned m.three (three_from f ps) → Ok (previous_of m) ≡ previous_made f ps
+previous_made_of m f ps all is r = passed _ _ (previous_of m) all (λ e. three_same stopping just_before m.three f (three_from f ps) _ is r)
+
+pub later_made_of : (m : LaterThree) (f : ℕ) (ps : List Period) → first_no (later_asked f ps) ≡ 0 → m.three.from ≡ f → Reckoned m.three (three_from f ps) → Ok (later_of m) ≡ later_made f ps
+later_made_of m f ps all is r = passed _ _ (later_of m) all (λ e. three_same missing just_after m.three f (three_from f ps) _ is r)

@@ -1,13 +1,14 @@
--- The methods by figures, made of the figures that are given for them, or refused by the number of the first question that says no.
--- Assumes nothing.
-use Rattle.std.specs.Prelude.{◌≡◌, ℕ, zero, suc, ◌&&◌, Ok, Err, Result, nat_le, nat_lt, refl}
+-- The methods, made of the figures or the rows that are given for them, or refused by the number of the first question that says
+-- no. Assumes nothing.
+use Rattle.std.specs.Prelude.{◌≡◌, ℕ, zero, suc, Bool, true, ◌&&◌, List, Ok, Err, Result, nat_le, nat_lt, refl}
 use Rattle.std.proofs.lemmas.Bool.{leb-true, ltb-true}
-use Rattle.rules.specs.Subject.{Method}
+use Rattle.rules.specs.Subject.{day_units, peak_units, Period, Use, Method}
 use Rattle.rules.specs.Questions.{first_no}
-use Rattle.method.specs.Meaning.{by_test, by_category, by_contract}
+use Rattle.method.specs.Meaning.{by_test, by_category, by_contract, by_three, stopping, missing, just_before, just_after}
 use Rattle.method.specs.declared.fault.MethodFault.{MethodFault}
-use Rattle.method.specs.Making.{number_of, test_asked, category_asked, contract_asked}
-use Rattle.method.specs.Limits.{said_yes, at_most}
+use Rattle.method.specs.Making.{number_of, test_asked, category_asked, contract_asked, previous_asked, later_asked}
+use Rattle.method.specs.Three.{three_from, are_three, units_of, days_of, average_of}
+use Rattle.method.specs.Limits.{said_yes, at_most, three_limits}
 
 -- q is the number of the first no, or 0
 abbrev pub made_if : (q : ℕ) → (q ≡ 0 → Method) → Result Method ℕ
@@ -39,6 +40,22 @@ contract_made kva utilization power load s = made_if (first_no (contract_asked k
     let utilization-limit = at_most (nat_le kva 1000) utilization 100 power-limit.0 in
     by_contract kva utilization power load s
     (leb-true kva 1000 utilization-limit.0) utilization-limit.1 power-limit.1 load-limit.1 s-limit.1)
+
+-- by three rows that were read, for some uses and spans
+abbrev pub of_three : (Use → Bool) → (Use → ℕ → ℕ → Bool) → (ps : List Period) → are_three ps ≡ true → Method
+of_three uses fitness ps are =
+    let limits = three_limits ps are in
+    by_three uses fitness (units_of day_units ps) (units_of peak_units ps) (days_of ps) (average_of ps)
+    (limits.units day_units) (limits.units peak_units) limits.days_least limits.days_most limits.average
+
+-- by rows f to f + 2 of a sheet with these periods
+abbrev pub previous_made : (f : ℕ) → List Period → Result Method ℕ
+previous_made f ps = made_if (first_no (previous_asked f ps)) (λ all.
+    of_three stopping (just_before f) (three_from f ps) (said_yes 15 (are_three (three_from f ps)) _ all).0)
+
+abbrev pub later_made : (f : ℕ) → List Period → Result Method ℕ
+later_made f ps = made_if (first_no (later_asked f ps)) (λ all.
+    of_three missing (just_after f) (three_from f ps) (said_yes 15 (are_three (three_from f ps)) _ all).0)
 
 -- what a making gave, as it is meant
 abbrev pub made_as : {M : Type 0} → (M → Method) → Result M MethodFault → Result Method ℕ

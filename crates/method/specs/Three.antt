@@ -1,15 +1,21 @@
 -- Three rows that were read, and what they give a method. Assumes nothing.
 use Rattle.std.specs.Prelude.{ℕ, ◌+◌, ◌/◌, Bool, true, ◌&&◌, List, [], ◌∷◌, length, take, drop, ◌==◌}
 use Rattle.rules.specs.Subject.{Register, Period, days, is_read}
+use Rattle.rules.specs.Questions.{is_reading, is_term}
 use Rattle.method.specs.Meaning.{units}
 
 -- the rows from row f on, three at most
 abbrev pub three_from : (f : ℕ) → List Period → List Period
 three_from f ps = take 3 (drop f ps)
 
+-- a row that was read, in the limits of its reading and of its days; every row of a sheet keeps them, so for a sheet's rows
+-- this asks the sort alone
+abbrev pub is_read_row : Period → Bool
+is_read_row p = is_read p.sort && is_reading p.recorded && is_term p.first p.last
+
 abbrev pub all_read : List Period → Bool
 all_read [] = true
-all_read (p ∷ ps) = is_read p.sort && all_read ps
+all_read (p ∷ ps) = is_read_row p && all_read ps
 
 -- there are three, and all were read
 abbrev pub are_three : List Period → Bool

@@ -1,16 +1,12 @@
 -- Cases worked out by hand, beside what the definitions give. Assumes nothing.
 use Rattle.std.specs.Prelude.{◌≡◌, ℕ, true, cond, List, [], ◌∷◌, map, Ok, Err, Result}
-use Rattle.std.proofs.Common.{lit≤}
-use Rattle.rules.specs.Subject.{Registers, day_units, peak_units, Period, charge_on, Cause, under, over, stopped, altered, consumer, Finding, correcting, Method, take, bill, Opening}
+use Rattle.rules.specs.Subject.{Registers, Period, charge_on, Cause, under, over, stopped, altered, consumer, Finding, correcting, Method, take, bill, Opening}
 use Rattle.rules.specs.Sharing.{instalment}
 use Rattle.rules.specs.Laid.{metered, rewritten, corrected}
-use Rattle.rules.specs.Questions.{first_no, question}
+use Rattle.rules.specs.Questions.{question}
 use Rattle.rules.specs.Given.{given}
 use Rattle.tariff.specs.Hotel.{hotel_1}
-use Rattle.method.specs.Three.{three_from, units_of, days_of, average_of}
-use Rattle.method.specs.Making.{previous_asked}
-use Rattle.method.specs.Meaning.{by_three, stopping, just_before}
-use Rattle.method.specs.Made.{made_if, test_made, contract_made}
+use Rattle.method.specs.Made.{test_made, contract_made, previous_made}
 
 -- registers of day units alone, and a row that was read at them
 abbrev pub day_only : ℕ → Registers
@@ -45,16 +41,6 @@ demands_left f ps m = map (λ p. p.standing.demand) (rewritten f 0 (corrected f 
 abbrev pub fits_over : Method → List ℕ
 fits_over m = cond (m.fits (correcting over) 0 0) 1 0 ∷ []
 
--- the first three of them
-abbrev pub three : List Period
-three = three_from 0 stopped_after
-
--- the method by these three, if it is made
-abbrev pub previous_made : Result Method ℕ
-previous_made = made_if (first_no (previous_asked 0 stopped_after)) (λ all.
-    by_three stopping (just_before 0) (units_of day_units three) (units_of peak_units three) (days_of three) (average_of three)
-    (lit≤ tt) (lit≤ tt) (lit≤ tt) (lit≤ tt) (lit≤ tt))
-
 -- an account opened on day 0 and held under hold 1; the number by which a bill up to the last day is refused, or 0
 abbrev pub opening : Opening
 opening = record { day = 0; sheet = 120; journal = 1024 }
@@ -75,7 +61,7 @@ table =
     -- 100, 100 and 100 units at 600 for 1,000
     ∷ (by (test_made 600 1000) (day_units_left (finding under 0 2) hundreds), 0 ∷ 166 ∷ 167 ∷ 167 ∷ [])
     -- the previous three with 900 units in 91 days, over rows of 30 and 31 days
-    ∷ (by previous_made (day_units_left (finding stopped 3 4) stopped_after), 0 ∷ 296 ∷ 307 ∷ [])
+    ∷ (by (previous_made 0 stopped_after) (day_units_left (finding stopped 3 4) stopped_after), 0 ∷ 296 ∷ 307 ∷ [])
     -- H-1 with 100 units, at 10 and at 11 kVA contract demand
     ∷ (charge_on (hotel_1 10) 0 (day_only 100) ∷ [], 117000 ∷ [])
     ∷ (charge_on (hotel_1 11) 0 (day_only 100) ∷ [], 137000 ∷ [])
