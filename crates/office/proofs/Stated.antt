@@ -20,8 +20,8 @@ lawful_page t o text page n number e accepted =
     let long : length page ≡ length w + (n - length w) = ap length is ∙ simp (length-append, length-replicate) in
     let rest : n - length w ≡ length page - length w = omega arith in
     record {
-      account = shown (after t o (calls [] (lines text)));
-      law = account_law t o (calls [] (lines text));
+      account = shown (after t o (calls o [] (lines text)));
+      law = account_law t o (calls o [] (lines text));
       shows = is ∙ ap (λ m. w ++ replicate m 0) rest;
     }
 

@@ -1,7 +1,6 @@
 pub mod Pages
-pub mod Faults
 pub mod Texts
 pub mod Statement
-pub mod Served
+pub mod Ran
 pub mod Refusals
 pub mod Office

@@ -42,5 +42,5 @@ pub record Stated (t : Tariff) (o : Opening) (questions : List (ℕ × Bool)) (t
 -- the account that the page shows keeps the law over the calls that the text makes
 pub record LawfulPage (t : Tariff) (o : Opening) (text page : List ℕ) : Type 0 where
   pub account : Shown
-  pub law : Law t o (calls [] (lines text)) account
+  pub law : Law t o (calls o [] (lines text)) account
   pub shows : let written : List ℕ = replies t o [] (lines text) ++ shown_text account in page ≡ written ++ replicate (length page - length written) 0

@@ -1,15 +1,15 @@
 -- The lines of a statement's page, as bytes; each ends with byte 10. Byte 44 is a comma, 65 an A. Assumes nothing.
-use Rattle.std.specs.Prelude.{ℕ, List, [], ◌∷◌, ◌++◌, ℤ, pos, Some, None, Ok, Err, codes, decimal, Option, Result}
+use Rattle.std.specs.Prelude.{ℕ, List, [], ◌∷◌, ◌++◌, ℤ, Some, None, codes, decimal, Option}
 use Rattle.std.specs.Fmt.{signed_decimal}
 use Rattle.rules.specs.Law.{Letter, B, C, P, Line}
-use Rattle.office.specs.declared.fault.Fault.{Fault}
-use Rattle.office.specs.declared.fault.Layer.{Layer}
-use Rattle.office.specs.declared.fault.Layer.TheVariants.{Reader, Account}
-use Rattle.office.specs.Faults.{layer_of, fault_number, fault_value}
+use Rattle.desk.specs.declared.fault.Layer.{Layer}
+use Rattle.desk.specs.declared.fault.Layer.TheVariants.{Reader, Method, Account}
+use Rattle.desk.specs.Calls.{Outcome}
 
--- r, a
+-- r, m, a
 abbrev pub layer_letter : Layer → ℕ
 layer_letter Reader = 114
+layer_letter Method = 109
 layer_letter Account = 97
 
 -- B, C, P
@@ -27,10 +27,9 @@ row_text None = codes "-"
 abbrev pub answer_line : (layer number : ℕ) → (value : ℤ) → List ℕ
 answer_line layer number value = 65 ∷ 44 ∷ layer ∷ 44 ∷ [] ++ decimal number ++ codes "," ++ signed_decimal value ++ 10 ∷ []
 
--- the A line of what a line was answered: the account's where it was accepted, with number 0
-abbrev pub told : Result ℤ Fault → List ℕ
-told (Ok value) = answer_line (layer_letter Account) 0 value
-told (Err f) = answer_line (layer_letter (layer_of f)) (fault_number f) (pos (fault_value f))
+-- the A line of what a line was answered
+abbrev pub told : Outcome → List ℕ
+told a = answer_line (layer_letter a.layer) a.number a.value
 
 -- J,hold,letter,row,cents
 abbrev pub journal_line : Line → List ℕ

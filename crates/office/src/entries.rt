@@ -1,28 +1,29 @@
 // The lines of a statement's page.
 ghost use Rattle.std.specs.Prelude.{◌≡◌};
 ghost use Rattle.figures.specs.View.{letter_of, line_seen};
+ghost use Rattle.desk.specs.Served.{outcome_of};
 ghost use Rattle.office.specs.Pages.{Wrote};
 ghost use Rattle.office.specs.Texts.{layer_letter, line_letter, row_text, answer_line, told, journal_line, sums_line};
 
-use crate::fault::{Fault, Layer};
 use crate::kept::Page;
 use crate::page::Full;
+use desk::fault::{Fault, Layer};
 use figures::line::{Letter, Line};
 use figures::money::Money;
 
-impl From<Layer> for u8 {
-    ghost from_gives = { λ layer letter. letter ≡ layer_letter layer };
-
-    fn from(layer: Layer) -> u8 {
-        match layer {
-            Layer::Reader => b'r',
-            Layer::Account => b'a',
-        }
+/// The letter of a layer. No `From` here or below: the letters belong to the page, and `desk` and `figures`, where it would
+/// have to stand, know of no page.
+fn layer_letter(layer: Layer) -> u8
+    ensures { result ≡ layer_letter layer }
+{
+    match layer {
+        Layer::Reader => b'r',
+        Layer::Method => b'm',
+        Layer::Account => b'a',
     }
 }
 
-/// The letter of a journal line. No `From`: the letters belong to the page, and `figures`, where it would have to stand, knows
-/// of no page.
+/// The letter of a journal line.
 fn letter(letter: Letter) -> u8
     ensures { result ≡ line_letter (letter_of letter) }
 {
@@ -38,7 +39,7 @@ impl<'a> Page<'a> {
     fn answer_line(&mut self, layer: Layer, number: u32, value: i64) -> Result<(), Full>
         ensures { Wrote self.old self.new result (answer_line (layer_letter layer) number value) }
     {
-        self.text(&[b'A', b',', layer.into(), b','])?;
+        self.text(&[b'A', b',', layer_letter(layer), b','])?;
         self.figure(u64::from(number))?;
         self.push(b',')?;
         self.cents(Money(value))?;
@@ -48,7 +49,7 @@ impl<'a> Page<'a> {
     /// What a line of the text was answered: `A,layer,number,value`. The page's format has numbers, with 0 for an accepted line.
     #[inline(always)]
     pub fn answer(&mut self, outcome: Result<i64, Fault>) -> Result<(), Full>
-        ensures { Wrote self.old self.new result (told outcome) }
+        ensures { Wrote self.old self.new result (told (outcome_of outcome)) }
     {
         match outcome {
             Ok(value) => self.answer_line(Layer::Account, 0, value),

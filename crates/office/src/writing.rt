@@ -8,8 +8,8 @@ ghost use Rattle.office.specs.Statement.{shown_text, result_text};
 
 use crate::kept::Page;
 use crate::page::Full;
-use crate::serving::serve;
 use account::account::Account;
+use desk::serving::serve;
 use events::lines::Reader;
 use tariff::tariff::Tariff;
 

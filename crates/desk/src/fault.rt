@@ -1,15 +1,17 @@
 // Why a line of the text did nothing, and which layer says so.
 ghost use Rattle.std.specs.Prelude.{◌≡◌};
-ghost use Rattle.office.specs.declared.fault.Fault.TheVariants.{Reader, Account};
-ghost use Rattle.office.specs.Faults.{layer_of, fault_number, fault_value};
+ghost use Rattle.desk.specs.declared.fault.Fault.TheVariants.{Reader, Method, Account};
+ghost use Rattle.desk.specs.Faults.{layer_of, fault_number, fault_value};
 
 use account::answer::Refusal;
 use events::fault::ReaderFault;
+use method::fault::MethodFault;
 
 /// The layer that answered a line.
 #[derive(Clone, Copy)]
 pub enum Layer {
     Reader,
+    Method,
     Account,
 }
 
@@ -17,6 +19,7 @@ pub enum Layer {
 #[derive(Clone, Copy)]
 pub enum Fault {
     Reader(ReaderFault),
+    Method(MethodFault),
     Account(Refusal),
 }
 
@@ -25,6 +28,14 @@ impl From<ReaderFault> for Fault {
 
     fn from(e: ReaderFault) -> Fault {
         Fault::Reader(e)
+    }
+}
+
+impl From<MethodFault> for Fault {
+    ghost from_gives = { λ e r. r ≡ Method e };
+
+    fn from(e: MethodFault) -> Fault {
+        Fault::Method(e)
     }
 }
 
@@ -42,6 +53,7 @@ impl Fault {
     {
         match self {
             Fault::Reader(_) => Layer::Reader,
+            Fault::Method(_) => Layer::Method,
             Fault::Account(_) => Layer::Account,
         }
     }
@@ -52,16 +64,18 @@ impl Fault {
     {
         match self {
             Fault::Reader(fault) => fault.number(),
+            Fault::Method(fault) => fault.number(),
             Fault::Account(refusal) => refusal.number(),
         }
     }
 
-    /// The reader points at a column; the account's refusals have the value 0, as the page's format wants.
+    /// The reader points at a column; the others' refusals have the value 0, as the page's format wants.
     pub fn value(self) -> u8
         ensures value { result ≡ fault_value self }
     {
         match self {
             Fault::Reader(fault) => fault.column(),
+            Fault::Method(_) => 0,
             Fault::Account(_) => 0,
         }
     }
