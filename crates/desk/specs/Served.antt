@@ -1,5 +1,5 @@
 -- An account before and after a line of the text. Assumes nothing.
-use Rattle.std.specs.Prelude.{◌≡◌, ℕ, ℤ, pos, Ok, Err, Result}
+use Rattle.std.specs.Prelude.{◌≡◌, ℕ, drop, ℤ, pos, Ok, Err, Result}
 use Rattle.rules.specs.Subject.{Tariff, Call}
 use Rattle.rules.specs.Machine.{State}
 use Rattle.account.specs.declared.account.Account.{Account}
@@ -16,12 +16,14 @@ abbrev pub outcome_of : Result ℤ Fault → Outcome
 outcome_of (Ok value) = record { layer = By-account; number = 0; value = value }
 outcome_of (Err f) = record { layer = layer_of f; number = fault_number f; value = pos (fault_value f) }
 
--- b is a with an outcome and a state that something has come to; r is that outcome
+-- b is a with an outcome and a state that something has come to; r is that outcome, and memory past the filled part is as it was
 pub record Left {T : Type 0} (mean : T → Tariff) (a b : Account T) (to : Outcome × State) (r : Result ℤ Fault) : Type 0 where
   pub answer : outcome_of r ≡ to.0
   pub state : state_of b ≡ to.1
   pub opening : opening_of b ≡ opening_of a
   pub tariff : mean b.tariff ≡ mean a.tariff
+  pub sheet_past : drop b.sheet.filled b.sheet.memory.now ≡ drop b.sheet.filled a.sheet.memory.now
+  pub journal_past : drop b.journal.filled b.journal.memory.now ≡ drop b.journal.filled a.journal.memory.now
 
 -- b is a after a call, or after its method was refused
 abbrev pub Called : {T : Type 0} → (T → Tariff) → Account T → Account T → Result Call ℕ → Result ℤ Fault → Type 0
