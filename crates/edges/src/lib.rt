@@ -10,6 +10,8 @@ mod holds;
 #[cfg(test)]
 mod lines;
 #[cfg(test)]
+mod makings;
+#[cfg(test)]
 mod memory;
 #[cfg(test)]
 mod periods;

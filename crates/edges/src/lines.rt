@@ -47,6 +47,112 @@ fn digits(rt: HostRuntime) {
     );
 }
 
+#[test]
+fn letters_and_counts_of_estimates_and_corrections(rt: HostRuntime) {
+    for (line, number) in [
+        ("E", 18),
+        ("E,1,30,300,0", 18),
+        ("E,1,30,300,0,0", 0),
+        ("E,1,30,300,0,0,0", 18),
+        ("e,1,30,300,0,0", 18),
+        ("C", 18),
+        ("C,1,U,c,15,n,0,0,M,600,1000,0,0", 18),
+        ("C,1,U,c,15,n,0,0,M,600,1000,0,0,0", 0),
+        ("C,1,U,c,15,n,0,0,M,600,1000,0,0,0,0", 18),
+        ("c,1,U,c,15,n,0,0,M,600,1000,0,0,0", 18),
+        ("CC,1,U,c,15,n,0,0,M,600,1000,0,0,0", 18),
+        (",1,U,c,15,n,0,0,M,600,1000,0,0,0", 18),
+    ] {
+        assert_eq!(rt; fault(line.as_bytes()).0, number, "{line}");
+    }
+}
+
+#[test]
+fn fields_of_an_estimate(rt: HostRuntime) {
+    for (line, column) in [
+        (
+            "E,9999999999999,9999999999999,9999999999999,9999999999999,9999999999999",
+            0,
+        ),
+        ("E,10000000000000,0,0,0,0", 3),
+        ("E,0,10000000000000,0,0,0", 5),
+        ("E,0,0,10000000000000,0,0", 7),
+        ("E,0,0,0,10000000000000,0", 9),
+        ("E,0,0,0,0,10000000000000", 11),
+        ("E,1,30,300,00,0", 12),
+        ("E,1,30,0300,0,0", 8),
+        ("E,1,30,300,0,", 14),
+        ("E,1,30,300,-1,+1", 12),
+    ] {
+        assert_eq!(rt; fault(line.as_bytes()).1, column, "{line}");
+    }
+}
+
+#[test]
+fn letters_in_a_correction(rt: HostRuntime) {
+    for (line, column) in [
+        ("C,1,A,s,15,n,0,0,M,600,1000,0,0,0", 0),
+        ("C,1,O,s,15,y,0,0,M,600,1000,0,0,0", 0),
+        ("C,1,S,c,15,y,0,0,M,600,1000,0,0,0", 0),
+        ("C,1,X,c,15,n,0,0,M,600,1000,0,0,0", 0),
+        ("C,1,u,c,15,n,0,0,M,600,1000,0,0,0", 5),
+        ("C,1,E,c,15,n,0,0,M,600,1000,0,0,0", 5),
+        ("C,1,,c,15,n,0,0,M,600,1000,0,0,0", 5),
+        ("C,1,UO,C,15,n,0,0,M,600,1000,0,0,0", 5),
+        ("C,1,U,C,15,n,0,0,M,600,1000,0,0,0", 7),
+        ("C,1,U,,15,n,0,0,M,600,1000,0,0,0", 7),
+        ("C,1,U,c,15,Y,0,0,M,600,1000,0,0,0", 12),
+        ("C,1,U,c,15,yn,0,0,M,600,1000,0,0,0", 12),
+        ("C,1,U,c,15,n,0,0,G,600,1000,0,0,0", 18),
+        ("C,1,U,c,15,n,0,0,m,600,1000,0,0,0", 18),
+        ("C,1,U,c,15,n,0,0,ML,600,1000,0,0,0", 18),
+        ("C,1,U,c,15,n,0,0,,x,x,x,x,x", 18),
+    ] {
+        assert_eq!(rt; fault(line.as_bytes()).1, column, "{line}");
+    }
+}
+
+#[test]
+fn method_fields_of_a_correction(rt: HostRuntime) {
+    for (line, column) in [
+        ("C,1,U,c,15,n,0,0,M,0,0,0,0,0", 0),
+        ("C,1,U,c,15,n,0,0,M,00,0,0,0,0", 20),
+        ("C,1,U,c,15,n,0,0,M,0,,0,0,0", 22),
+        ("C,1,U,c,15,n,0,0,M,0,0,1,0,0", 24),
+        ("C,1,U,c,15,n,0,0,M,0,0,0,00,0", 26),
+        ("C,1,U,c,15,n,0,0,M,0,0,0,0,", 28),
+        ("C,1,S,c,15,n,0,0,P,7,0,0,0,0", 0),
+        ("C,1,S,c,15,n,0,0,P,7,7,0,0,0", 22),
+        ("C,1,S,c,15,n,0,0,P,7,0,0,0,0x", 28),
+        ("C,1,S,c,15,n,0,0,L,7,0,0,0,0", 0),
+        ("C,1,S,c,15,n,0,0,L,,7,0,0,0", 20),
+        ("C,1,S,c,15,n,0,0,L,7,,0,0,0", 22),
+        ("C,1,X,c,15,n,0,0,D,7,7,7,7,7", 0),
+        ("C,1,X,c,15,n,0,0,D,7,7,7,7,07", 28),
+    ] {
+        assert_eq!(rt; fault(line.as_bytes()).1, column, "{line}");
+    }
+}
+
+/// The longest lawful line is a correction by contract demand with 13 digits in each figure: it has 135 bytes, so no lawful
+/// line has 140. What follows it makes the last field unlawful until the line itself is too long.
+#[test]
+fn the_longest_lines(rt: HostRuntime) {
+    let text =
+        b"C,9999999999999,X,s,9999999999999,y,9999999999999,9999999999999,D,9999999999999,9999999999999,9999999999999,9999999999999,9999999999999999999";
+    assert_eq!(rt; text.len(), 141);
+    assert_eq!(rt; fault(&text[..135]), (0, 0));
+    assert_eq!(rt; fault(&text[..136]), (19, 123), "14 digits");
+    assert_eq!(rt; fault(&text[..140]), (19, 123));
+    assert_eq!(rt; fault(text), (20, 141));
+    for begin in [3, 21, 37, 51] {
+        let mut line =
+            *b"C,1234567890123,U,c,1234567890123,n,1234567890123,1234567890123,L,1234567890123,0,0,0,0";
+        line[begin - 1] = b'0';
+        assert_eq!(rt; fault(&line), (19, begin as u8));
+    }
+}
+
 /// Whether the page holds what is expected, and then zeros.
 fn holds(page: &[u8], expected: &[u8]) -> bool {
     page.strip_prefix(expected)

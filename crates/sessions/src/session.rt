@@ -8,7 +8,7 @@ pub(crate) struct Session {
 }
 
 /// Every stored session.
-pub(crate) const SESSIONS: [Session; 22] = [
+pub(crate) const SESSIONS: [Session; 23] = [
     Session {
         name: "run-of-eight",
         tariff: 2,
@@ -16,6 +16,11 @@ pub(crate) const SESSIONS: [Session; 22] = [
     },
     Session {
         name: "too-few-readings-after-a-run",
+        tariff: 1,
+        opening: 0,
+    },
+    Session {
+        name: "wrong-sort-of-rows",
         tariff: 1,
         opening: 0,
     },
