@@ -69,7 +69,7 @@ impl Fault {
         }
     }
 
-    /// The reader points at a column; the others' refusals have the value 0, as the page's format wants.
+    /// The column that the reader points at; 0 for the other layers.
     pub fn value(self) -> u8
         ensures value { result ≡ fault_value self }
     {

@@ -37,14 +37,14 @@ pub(crate) const FAST: TestMeter = TestMeter {
 
 /// Memory to lend to an account.
 #[derive(Drop)]
-pub(crate) struct Desk<const ROWS: usize, const LINES: usize> {
+pub(crate) struct Memory<const ROWS: usize, const LINES: usize> {
     sheet: [Row; ROWS],
     journal: [Line; LINES],
 }
 
-impl<const ROWS: usize, const LINES: usize> Desk<ROWS, LINES> {
-    pub(crate) fn new() -> Desk<ROWS, LINES> {
-        Desk {
+impl<const ROWS: usize, const LINES: usize> Memory<ROWS, LINES> {
+    pub(crate) fn new() -> Memory<ROWS, LINES> {
+        Memory {
             sheet: [BLANK; ROWS],
             journal: [EMPTY; LINES],
         }

@@ -19,8 +19,8 @@ fn bill_rows(rt: &impl Abort, a: &mut Account<Plain>, n: u8) {
 
 #[test]
 fn under_by_the_consumer(rt: HostRuntime) {
-    let mut desk = Desk::<6, 20>::new();
-    let mut a = desk.open(&rt, H1, 0);
+    let mut memory = Memory::<6, 20>::new();
+    let mut a = memory.open(&rt, H1, 0);
     bill_rows(&rt, &mut a, 3);
     assert_eq!(rt;
         number(a.correct(1, reported(Cause::Under, 9, 1, 1), &SLOW)),
@@ -55,8 +55,8 @@ fn under_by_the_consumer(rt: HostRuntime) {
 
 #[test]
 fn under_by_the_supplier(rt: HostRuntime) {
-    let mut desk = Desk::<6, 20>::new();
-    let mut a = desk.open(&rt, H1, 0);
+    let mut memory = Memory::<6, 20>::new();
+    let mut a = memory.open(&rt, H1, 0);
     bill_rows(&rt, &mut a, 5);
     assert_eq!(rt;
         number(a.correct(1, found(Cause::Under, 0, 0, 3), &SLOW)),
@@ -92,8 +92,8 @@ fn under_by_the_supplier(rt: HostRuntime) {
 
 #[test]
 fn over_up_to_twelve_rows(rt: HostRuntime) {
-    let mut desk = Desk::<14, 40>::new();
-    let mut a = desk.open(&rt, H1, 0);
+    let mut memory = Memory::<14, 40>::new();
+    let mut a = memory.open(&rt, H1, 0);
     bill_rows(&rt, &mut a, 13);
     assert_eq!(rt;
         number(a.correct(1, found(Cause::Over, 0, 0, 0), &FAST)),
@@ -118,8 +118,8 @@ fn over_up_to_twelve_rows(rt: HostRuntime) {
 
 #[test]
 fn stopped_by_the_previous_three(rt: HostRuntime) {
-    let mut desk = Desk::<18, 40>::new();
-    let mut a = desk.open(&rt, H1, 0);
+    let mut memory = Memory::<18, 40>::new();
+    let mut a = memory.open(&rt, H1, 0);
     bill_rows(&rt, &mut a, 17);
     let three = PreviousThree::new(a.rows(), 0)
         .ok()
@@ -147,8 +147,8 @@ fn stopped_by_the_previous_three(rt: HostRuntime) {
 
 #[test]
 fn altered_by_the_contract_demand(rt: HostRuntime) {
-    let mut desk = Desk::<8, 40>::new();
-    let mut a = desk.open(&rt, H1, 0);
+    let mut memory = Memory::<8, 40>::new();
+    let mut a = memory.open(&rt, H1, 0);
     bill_rows(&rt, &mut a, 5);
     let contract = ContractDemand::new(Kva(10), 50, 90, 40, 0)
         .ok()

@@ -5,8 +5,8 @@ use method::finding::Cause;
 
 #[test]
 fn taken_over_at_exactly_its_time(rt: HostRuntime) {
-    let mut desk = Desk::<2, 2>::new();
-    let mut a = desk.open(&rt, H1, 0);
+    let mut memory = Memory::<2, 2>::new();
+    let mut a = memory.open(&rt, H1, 0);
     assert_eq!(rt; number(a.hand_back(0)), 1);
     assert_eq!(rt; number(a.take(100, 10)), 0);
     assert_eq!(rt; number(a.take(109, 10)), 11);
@@ -21,8 +21,8 @@ fn taken_over_at_exactly_its_time(rt: HostRuntime) {
 
 #[test]
 fn figures_of_a_take(rt: HostRuntime) {
-    let mut desk = Desk::<1, 1>::new();
-    let mut a = desk.open(&rt, H1, 0);
+    let mut memory = Memory::<1, 1>::new();
+    let mut a = memory.open(&rt, H1, 0);
     assert_eq!(rt; number(a.take(1_000_000_000_001, 10)), 2);
     assert_eq!(rt; number(a.take(0, 0)), 2);
     assert_eq!(rt; number(a.take(0, 86_401)), 2);
@@ -33,8 +33,8 @@ fn figures_of_a_take(rt: HostRuntime) {
 
 #[test]
 fn figures_of_a_payment(rt: HostRuntime) {
-    let mut desk = Desk::<1, 2>::new();
-    let mut a = desk.open(&rt, H1, 0);
+    let mut memory = Memory::<1, 2>::new();
+    let mut a = memory.open(&rt, H1, 0);
     assert_eq!(rt; number(a.take(0, 10)), 0);
     assert_eq!(rt; number(a.pay(1, Cents(0))), 2);
     assert_eq!(rt; number(a.pay(1, Cents(1_000_000_000_001))), 2);
@@ -46,8 +46,8 @@ fn figures_of_a_payment(rt: HostRuntime) {
 
 #[test]
 fn two_clerks_on_one_quarter(rt: HostRuntime) {
-    let mut desk = Desk::<2, 4>::new();
-    let mut a = desk.open(&rt, H1, 0);
+    let mut memory = Memory::<2, 4>::new();
+    let mut a = memory.open(&rt, H1, 0);
     let f = reported(Cause::Under, 15, 0, 0);
     assert_eq!(rt; number(a.take(100, 10)), 0);
     assert_eq!(rt; cents(a.bill(1, 30, reading(600, 0, 0))), 687_000);

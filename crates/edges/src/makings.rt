@@ -89,8 +89,8 @@ fn a_contract_demand_at_its_limits(rt: HostRuntime) {
 
 #[test]
 fn three_rows_at_the_sheets_end(rt: HostRuntime) {
-    let mut desk = Desk::<6, 6>::new();
-    let mut a = desk.open(&rt, H1, 0);
+    let mut memory = Memory::<6, 6>::new();
+    let mut a = memory.open(&rt, H1, 0);
     assert_eq!(rt; number(a.take(0, 10)), 0);
     for (day, peak) in [(5, 0), (0, 1), (0, 0), (0, 0), (0, 0)] {
         assert_eq!(rt;
@@ -124,8 +124,8 @@ fn three_rows_at_the_sheets_end(rt: HostRuntime) {
 
 #[test]
 fn three_rows_that_are_not_all_read(rt: HostRuntime) {
-    let mut desk = Desk::<6, 6>::new();
-    let mut a = desk.open(&rt, H1, 0);
+    let mut memory = Memory::<6, 6>::new();
+    let mut a = memory.open(&rt, H1, 0);
     assert_eq!(rt; asked(PreviousThree::new(a.rows(), 0)), 16, "no row at all");
     let category = Category::new(Kwh(300), 0, Kva(0))
         .ok()
@@ -195,8 +195,8 @@ fn what_the_methods_by_figures_serve(rt: HostRuntime) {
 
 #[test]
 fn what_the_methods_by_three_rows_serve(rt: HostRuntime) {
-    let mut desk = Desk::<10, 10>::new();
-    let mut a = desk.open(&rt, H1, 0);
+    let mut memory = Memory::<10, 10>::new();
+    let mut a = memory.open(&rt, H1, 0);
     assert_eq!(rt; number(a.take(0, 10)), 0);
     for day in 0..10u64 {
         assert_eq!(rt; number(a.bill(1, day, reading(7, 0, 0))), 0);
@@ -233,8 +233,8 @@ fn what_the_methods_by_three_rows_serve(rt: HostRuntime) {
 
 #[test]
 fn three_rows_from_the_first_on(rt: HostRuntime) {
-    let mut desk = Desk::<3, 3>::new();
-    let mut a = desk.open(&rt, H1, 0);
+    let mut memory = Memory::<3, 3>::new();
+    let mut a = memory.open(&rt, H1, 0);
     assert_eq!(rt; number(a.take(0, 10)), 0);
     for day in 0..3u64 {
         assert_eq!(rt; number(a.bill(1, day, reading(7, 0, 0))), 0);

@@ -4,8 +4,8 @@ use figures::reported::Cents;
 
 #[test]
 fn no_memory(rt: HostRuntime) {
-    let mut desk = Desk::<0, 0>::new();
-    let mut a = desk.open(&rt, H1, 0);
+    let mut memory = Memory::<0, 0>::new();
+    let mut a = memory.open(&rt, H1, 0);
     assert_eq!(rt; number(a.take(0, 10)), 0);
     assert_eq!(rt; number(a.bill(1, 0, reading(0, 0, 0))), 3);
     assert_eq!(rt; number(a.pay(1, Cents(1))), 10);
@@ -14,8 +14,8 @@ fn no_memory(rt: HostRuntime) {
 
 #[test]
 fn a_full_sheet(rt: HostRuntime) {
-    let mut desk = Desk::<130, 130>::new();
-    let mut a = desk.open(&rt, H1, 0);
+    let mut memory = Memory::<130, 130>::new();
+    let mut a = memory.open(&rt, H1, 0);
     assert_eq!(rt; number(a.take(0, 10)), 0);
     for day in 0..120u64 {
         assert_eq!(rt; number(a.bill(1, day, reading(1, 0, 0))), 0);
@@ -27,8 +27,8 @@ fn a_full_sheet(rt: HostRuntime) {
 
 #[test]
 fn a_full_journal(rt: HostRuntime) {
-    let mut desk = Desk::<2, 1_030>::new();
-    let mut a = desk.open(&rt, H1, 0);
+    let mut memory = Memory::<2, 1_030>::new();
+    let mut a = memory.open(&rt, H1, 0);
     assert_eq!(rt; number(a.take(0, 10)), 0);
     for _ in 0..1_024u64 {
         assert_eq!(rt; number(a.pay(1, Cents(7))), 0);

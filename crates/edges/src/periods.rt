@@ -7,8 +7,8 @@ use tariff::tariff::Tariff;
 
 #[test]
 fn a_hundred_days_and_one_more(rt: HostRuntime) {
-    let mut desk = Desk::<3, 3>::new();
-    let mut a = desk.open(&rt, H1, 0);
+    let mut memory = Memory::<3, 3>::new();
+    let mut a = memory.open(&rt, H1, 0);
     assert_eq!(rt; number(a.take(0, 10)), 0);
     assert_eq!(rt; cents(a.bill(1, 99, reading(100, 0, 0))), 117_000);
     assert_eq!(rt; number(a.bill(1, 200, reading(0, 0, 0))), 4);
@@ -18,8 +18,8 @@ fn a_hundred_days_and_one_more(rt: HostRuntime) {
 
 #[test]
 fn the_last_day(rt: HostRuntime) {
-    let mut desk = Desk::<3, 3>::new();
-    let mut a = desk.open(&rt, H1, 18_262);
+    let mut memory = Memory::<3, 3>::new();
+    let mut a = memory.open(&rt, H1, 18_262);
     assert_eq!(rt; number(a.take(0, 10)), 0);
     assert_eq!(rt; number(a.bill(1, 18_263, reading(0, 0, 0))), 2);
     assert_eq!(rt; number(a.bill(1, 18_262, reading(0, 0, 0))), 0);
@@ -40,8 +40,8 @@ fn opened_a_day_too_late(rt: HostRuntime) {
 
 #[test]
 fn units_and_demand(rt: HostRuntime) {
-    let mut desk = Desk::<3, 3>::new();
-    let mut a = desk.open(&rt, H1, 0);
+    let mut memory = Memory::<3, 3>::new();
+    let mut a = memory.open(&rt, H1, 0);
     assert_eq!(rt; number(a.take(0, 10)), 0);
     assert_eq!(rt; number(a.bill(1, 0, reading(1_000_001, 0, 0))), 2);
     assert_eq!(rt; number(a.bill(1, 0, reading(0, 1_000_001, 0))), 2);

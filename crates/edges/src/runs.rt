@@ -17,8 +17,8 @@ fn ten_a_day(rt: &impl Abort) -> Category {
 
 #[test]
 fn six_seven_and_eight(rt: HostRuntime) {
-    let mut desk = Desk::<12, 12>::new();
-    let mut a = desk.open(&rt, H1, 0);
+    let mut memory = Memory::<12, 12>::new();
+    let mut a = memory.open(&rt, H1, 0);
     let m = ten_a_day(&rt);
     assert_eq!(rt; number(a.take(0, 10)), 0);
     for k in 0..6u64 {
@@ -32,8 +32,8 @@ fn six_seven_and_eight(rt: HostRuntime) {
 
 #[test]
 fn a_method_that_serves_no_estimate_is_not_asked_late(rt: HostRuntime) {
-    let mut desk = Desk::<12, 12>::new();
-    let mut a = desk.open(&rt, H1, 0);
+    let mut memory = Memory::<12, 12>::new();
+    let mut a = memory.open(&rt, H1, 0);
     let m = ten_a_day(&rt);
     assert_eq!(rt; number(a.take(0, 10)), 0);
     assert_eq!(rt; number(a.estimate(1, 0, &SLOW)), 8);
@@ -48,8 +48,8 @@ fn a_changeover_inside_a_run(rt: HostRuntime) {
     let tariff = Changeover::new(H1, h2(), 20)
         .ok()
         .expect(&rt, "no changeover");
-    let mut desk = Desk::<3, 3>::new();
-    let mut a = desk.open(&rt, tariff, 0);
+    let mut memory = Memory::<3, 3>::new();
+    let mut a = memory.open(&rt, tariff, 0);
     let m = ten_a_day(&rt);
     assert_eq!(rt; number(a.take(0, 10)), 0);
     assert_eq!(rt; cents(a.estimate(1, 9, &m)), 117_000);
@@ -63,8 +63,8 @@ fn a_changeover_inside_a_run(rt: HostRuntime) {
 
 #[test]
 fn an_absent_run_corrected(rt: HostRuntime) {
-    let mut desk = Desk::<12, 20>::new();
-    let mut a = desk.open(&rt, H1, 0);
+    let mut memory = Memory::<12, 20>::new();
+    let mut a = memory.open(&rt, H1, 0);
     let m = ten_a_day(&rt);
     assert_eq!(rt; number(a.take(0, 10)), 0);
     assert_eq!(rt; number(a.bill(1, 9, reading(100, 0, 0))), 0);

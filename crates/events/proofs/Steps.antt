@@ -6,7 +6,7 @@ use Rattle.std.proofs.lemmas.Bool.Decides.{nat_tests}
 use Rattle.std.proofs.lemmas.List.{drop_all, take_all}
 use Rattle.std.proofs.lemmas.List.Sums.{prefix_len-le-length, fails_before_first}
 use Rattle.std.proofs.lemmas.List.Splits.{slice_split_none, slice_split_first, length-slice_split}
-use Rattle.events.specs.Fields.{fields_from}
+use Rattle.events.specs.FieldsLeft.{fields_from}
 use Rattle.events.specs.Lines.{lines, fields, placed}
 
 -- where the first byte that passes stands

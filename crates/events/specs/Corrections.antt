@@ -8,7 +8,7 @@ use Rattle.events.specs.declared.letters.MethodName.TheVariants.{TestMeter, Prev
 use Rattle.events.specs.declared.fault.ReaderFault.{ReaderFault}
 use Rattle.events.specs.Figures.{figure_of, kwh_of, kva_of}
 use Rattle.events.specs.Letters.{cause_of, side_of, known_of, method_of}
-use Rattle.events.specs.Places.{read}
+use Rattle.events.specs.Reads.{read}
 
 -- cause,side,notice,known,first,last, and the fields after them
 abbrev pub finding_in : List (ℕ × List ℕ) → Result (Finding × List (ℕ × List ℕ)) ReaderFault

@@ -7,7 +7,7 @@ use Rattle.events.specs.declared.fault.ReaderFault.{ReaderFault}
 use Rattle.events.specs.declared.fault.ReaderFault.TheVariants.{TooLong, Shape}
 use Rattle.events.specs.Lines.{fields, placed}
 use Rattle.events.specs.Figures.{figure_of, kwh_of, kva_of, cents_of}
-use Rattle.events.specs.Places.{on, read, unused}
+use Rattle.events.specs.Reads.{on, read, unused}
 use Rattle.events.specs.Corrections.{finding_in, basis_in}
 
 -- the forms of an event, by letter

@@ -2,8 +2,8 @@ pub mod Faults
 pub mod Lines
 pub mod Figures
 pub mod Letters
-pub mod Places
+pub mod Reads
 pub mod Corrections
 pub mod Events
-pub mod Walks
-pub mod Fields
+pub mod LinesLeft
+pub mod FieldsLeft

@@ -17,7 +17,7 @@ pub enum Event {
         last: u64,
         reading: Reading,
     },
-    /// By the category of these units in 30 days, this share of the peak in per cent, and this demand.
+    /// By the category of these units in 30 days, this per cent of them in the peak, and this demand.
     Estimate {
         hold: u64,
         last: u64,
@@ -52,7 +52,7 @@ pub enum Basis {
     LaterThree {
         from: u64,
     },
-    /// The contract demand, and three factors and the share of the peak in per cent.
+    /// The contract demand, and three factors and the peak's share in per cent.
     ContractDemand {
         kva: Kva,
         utilization: u64,

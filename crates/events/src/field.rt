@@ -3,9 +3,9 @@ ghost use Rattle.std.specs.Prelude.{◌≡◌, ℕ, List, Option};
 
 /// A value that stands in one field.
 pub(crate) trait FromField: Sized {
-    ghost of: { List ℕ → Option Self };
+    ghost held: { List ℕ → Option Self };
 
     /// The value that the field writes, where it holds a lawful one.
     fn from_field(field: &[u8]) -> Option<Self>
-        ensures value { result ≡ of field.now };
+        ensures value { result ≡ held field.now };
 }

@@ -14,7 +14,7 @@ pub(crate) struct Field<'a> {
 pub(crate) struct Fields<'a> {
     /// From the next field to the line's end; none after the last field.
     pub(crate) rest: Option<&'a [u8]>,
-    /// The column at which the next field begins.
+    /// The column at which the next field begins; a line is short enough that it fits a byte.
     pub(crate) column: u8,
     ghost short: { ForSome rest (λ r. column + length r.now ≤ 143) },
 }

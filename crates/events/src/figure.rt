@@ -6,7 +6,7 @@ use crate::field::FromField;
 use figures::reported::{Cents, Kva, Kwh};
 
 impl FromField for u64 {
-    ghost of = { figure_of };
+    ghost held = { figure_of };
 
     fn from_field(field: &[u8]) -> Option<u64> {
         if field.len() > 13 || matches!(field, [] | [b'0', _, ..]) {
@@ -24,7 +24,7 @@ impl FromField for u64 {
 }
 
 impl FromField for Kwh {
-    ghost of = { kwh_of };
+    ghost held = { kwh_of };
 
     fn from_field(field: &[u8]) -> Option<Kwh> {
         Some(Kwh(u64::from_field(field)?))
@@ -32,7 +32,7 @@ impl FromField for Kwh {
 }
 
 impl FromField for Kva {
-    ghost of = { kva_of };
+    ghost held = { kva_of };
 
     fn from_field(field: &[u8]) -> Option<Kva> {
         Some(Kva(u64::from_field(field)?))
@@ -40,7 +40,7 @@ impl FromField for Kva {
 }
 
 impl FromField for Cents {
-    ghost of = { cents_of };
+    ghost held = { cents_of };
 
     fn from_field(field: &[u8]) -> Option<Cents> {
         Some(Cents(u64::from_field(field)?))

@@ -19,7 +19,7 @@ pub(crate) enum MethodName {
 pub(crate) struct Unused;
 
 impl FromField for Cause {
-    ghost of = { cause_of };
+    ghost held = { cause_of };
 
     fn from_field(field: &[u8]) -> Option<Cause> {
         match field {
@@ -34,7 +34,7 @@ impl FromField for Cause {
 }
 
 impl FromField for Side {
-    ghost of = { side_of };
+    ghost held = { side_of };
 
     fn from_field(field: &[u8]) -> Option<Side> {
         match field {
@@ -47,7 +47,7 @@ impl FromField for Side {
 
 /// Whether the dates are known: `y` or `n`.
 impl FromField for bool {
-    ghost of = { known_of };
+    ghost held = { known_of };
 
     fn from_field(field: &[u8]) -> Option<bool> {
         match field {
@@ -59,7 +59,7 @@ impl FromField for bool {
 }
 
 impl FromField for MethodName {
-    ghost of = { method_of };
+    ghost held = { method_of };
 
     fn from_field(field: &[u8]) -> Option<MethodName> {
         match field {
@@ -73,7 +73,7 @@ impl FromField for MethodName {
 }
 
 impl FromField for Unused {
-    ghost of = { unused_of };
+    ghost held = { unused_of };
 
     fn from_field(field: &[u8]) -> Option<Unused> {
         match field {

@@ -3,7 +3,7 @@ ghost use Rattle.std.specs.Prelude.{◌≡◌, ◌+◌, ◌<◌, ◌==◌, lengt
 ghost use Rattle.std.specs.List.{before_first, after_first, position_or_len};
 ghost use Rattle.std.specs.Iterator.{YieldsFirstRef, item_count};
 ghost use Rattle.events.specs.Lines.{lines};
-ghost use Rattle.events.specs.Walks.{lines_left};
+ghost use Rattle.events.specs.LinesLeft.{lines_left};
 
 /// What stands before the first `mark`, and what after it, where there is one.
 pub(crate) fn split_at_first(text: &[u8], mark: u8) -> (&[u8], Option<&[u8]>)

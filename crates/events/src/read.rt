@@ -2,7 +2,7 @@
 ghost use Rattle.std.specs.Prelude.{◌≡◌};
 ghost use Rattle.events.specs.Events.{t_line, h_line, b_line, e_line, c_line, p_line, event_in, event_of};
 ghost use Rattle.events.specs.Corrections.{finding_in, basis_in};
-ghost use Rattle.events.specs.Fields.{fields_left, with_left};
+ghost use Rattle.events.specs.FieldsLeft.{fields_left, with_left};
 
 use crate::event::{Basis, Event};
 use crate::fault::ReaderFault;

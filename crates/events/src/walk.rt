@@ -3,8 +3,8 @@ ghost use Rattle.std.specs.Prelude.{◌≡◌, ◌≤◌, length, if◌then◌el
 ghost use Rattle.std.specs.Iterator.{YieldsFirstBy, item_count};
 ghost use Rattle.events.specs.declared.fault.ReaderFault.TheVariants.{Shape};
 ghost use Rattle.events.specs.Lines.{fields, placed};
-ghost use Rattle.events.specs.Places.{lawful, field, unused};
-ghost use Rattle.events.specs.Fields.{field_of, fields_left, with_left};
+ghost use Rattle.events.specs.Reads.{lawful, field, unused};
+ghost use Rattle.events.specs.FieldsLeft.{field_of, fields_left, with_left};
 
 use crate::fault::ReaderFault;
 use crate::field::FromField;
@@ -15,7 +15,7 @@ use crate::lines::split_at_first;
 impl<'a> Field<'a> {
     /// What the field holds.
     fn parse<T: FromField>(self) -> Result<T, ReaderFault>
-        ensures value { result ≡ lawful T.FromField.of (field_of self.entry) }
+        ensures value { result ≡ lawful T.FromField.held (field_of self.entry) }
     {
         T::from_field(self.bytes).ok_or(ReaderFault::Field(self.column))
     }
@@ -56,7 +56,7 @@ impl<'a> Fields<'a> {
 
     /// What the next field holds.
     pub(crate) fn parse<T: FromField>(&mut self) -> Result<T, ReaderFault>
-        ensures value { field T.FromField.of (fields_left self.old) ≡ with_left result self.new }
+        ensures value { field T.FromField.held (fields_left self.old) ≡ with_left result self.new }
     {
         self.next().ok_or(ReaderFault::Shape)?.parse()
     }

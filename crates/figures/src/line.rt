@@ -8,7 +8,7 @@ pub enum Letter {
     Payment,
 }
 
-/// What one call moved the balance by. A payment's line names no row; the project asks for the row as an Option.
+/// What a bill, the correction of one row or a payment moved the balance by. A payment names no row.
 #[derive(Clone, Copy)]
 pub struct Line {
     pub hold: u32,

@@ -16,7 +16,7 @@ use figures::reported::{Kva, Kwh};
 use figures::row::Recorded;
 use figures::units::{Demand, Register, Units};
 
-/// The units of 30 days, the share of the peak in them, and a demand.
+/// The units of 30 days, the peak's share in them, and a demand.
 #[derive(Clone, Copy)]
 pub struct Category {
     pub figure: Units,

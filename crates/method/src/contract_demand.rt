@@ -16,7 +16,7 @@ use figures::reported::Kva;
 use figures::row::Recorded;
 use figures::units::{Demand, Register};
 
-/// The demand, how much of it is utilized, the power and the load factor, and the share of the peak.
+/// The demand, how much of it is utilized, the power and the load factor, and the peak's share.
 #[derive(Clone, Copy)]
 pub struct ContractDemand {
     pub contract: Contract,

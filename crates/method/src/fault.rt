@@ -16,9 +16,9 @@ pub enum MethodFault {
     NoMeter = 14,
     /// The meter is within 2.5 per cent of the test meter.
     TooClose = 15,
-    /// Three rows are not billed, or not read.
+    /// One of the three rows is not billed, or was not read.
     NotRead = 16,
-    /// Three rows have no units.
+    /// The three rows have no units.
     NoUnits = 17,
 }
 

@@ -1,7 +1,7 @@
 // Causes of corrections, and what a finding says.
 ghost use Rattle.std.specs.Prelude.{◌≡◌, ◌+◌, ◌-◌, ◌&&◌, ◌||◌, ◌==◌, nat_le};
 
-/// Why rows are corrected: the reading was absent, the meter ran under or over, stopped, or was altered.
+/// Why rows are corrected: no reading could be had, the meter ran under or over, stopped, or was altered.
 #[derive(Clone, Copy, Debug, PartialEq, Eq)]
 pub enum Cause {
     Absent,

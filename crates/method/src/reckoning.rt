@@ -32,7 +32,7 @@ impl ThreeRows {
         })
     }
 
-    /// Rows `from` to `from` + 2, where they are billed and read; rows and number are lent for the making alone.
+    /// Rows `from` to `from` + 2, where they are billed and read.
     #[tactic(auto, using(crate::proofs::Three::three_by_sort))]
     pub fn new(rows: &[Row], from: u64) -> Option<ThreeRows>
         ensures reckoned { ReckonedFrom from (three_from from (map period_seen rows.now)) result }

@@ -5,6 +5,9 @@ use Rattle.events.proofs.read.read_event.Goals as goal
 pub returns-in_default : goal.returns-in_default
 returns-in_default c = record { value = unchosen c.args.line.now c.if-line-gt140.false (search rules) }
 
+pub returns-in_default-2 : goal.returns-in_default-2
+returns-in_default-2 c = record { value = unchosen c.args.line.now c.if-line-gt140.false (search rules) }
+
 pub returns-in_default-3 : goal.returns-in_default-3
 returns-in_default-3 c = record { value = unchosen c.args.line.now c.if-line-gt140.false (search rules) }
 

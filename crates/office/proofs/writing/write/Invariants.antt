@@ -1,5 +1,5 @@
 use Rattle.events.specs.Lines.{lines}
-use Rattle.events.specs.Walks.{lines_left}
+use Rattle.events.specs.LinesLeft.{lines_left}
 use Rattle.office.proofs.Going.{Going}
 use Rattle.office.proofs.writing.write.Given as goal
 

@@ -1,6 +1,6 @@
 use Rattle.std.proofs.Common.{◌≡◌}
-use Rattle.events.specs.Places.{unused}
-use Rattle.events.specs.Fields.{fields_left}
+use Rattle.events.specs.Reads.{unused}
+use Rattle.events.specs.FieldsLeft.{fields_left}
 use Rattle.events.proofs.fields.Fields.unused.Given as goal
 
 abbrev pub invariant-loop-field : goal.invariant-loop-field

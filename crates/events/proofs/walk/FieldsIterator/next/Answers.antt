@@ -1,5 +1,5 @@
 use Rattle.std.proofs.Common.{◌≡◌, ◌+◌, ◌∷◌, length, rules}
-use Rattle.events.specs.Fields.{fields_from}
+use Rattle.events.specs.FieldsLeft.{fields_from}
 use Rattle.events.proofs.Steps.{fields_next}
 use Rattle.events.proofs.walk.FieldsIterator.next.Goals as goal
 

@@ -8,12 +8,12 @@ use Rattle.events.specs.Letters.{unused_of}
 
 -- what a field holds, where that is lawful
 abbrev pub lawful : {A : Type 0} → (List ℕ → Option A) → ℕ × List ℕ → Result A ReaderFault
-lawful of f = ok_or (of f.1) (Field f.0)
+lawful held f = ok_or (held f.1) (Field f.0)
 
 -- what the first field holds, and the fields after it
 abbrev pub field : {A : Type 0} → (List ℕ → Option A) → List (ℕ × List ℕ) → Result (A × List (ℕ × List ℕ)) ReaderFault
-field of [] = Err Shape
-field of (f ∷ fs) = elim (lawful of f) [ Ok x ↦ Ok (x, fs) | Err e ↦ Err e ]
+field held [] = Err Shape
+field held (f ∷ fs) = elim (lawful held f) [ Ok x ↦ Ok (x, fs) | Err e ↦ Err e ]
 
 -- what was read and the fields after it, handed on
 abbrev pub on : {A B : Type 0} → Result (A × List (ℕ × List ℕ)) ReaderFault → (A → List (ℕ × List ℕ) → Result B ReaderFault) → Result B ReaderFault
@@ -22,7 +22,7 @@ on (Err e) next = Err e
 
 -- the first field read, and then those after it
 abbrev pub read : {A B : Type 0} → (List ℕ → Option A) → List (ℕ × List ℕ) → (A → List (ℕ × List ℕ) → Result B ReaderFault) → Result B ReaderFault
-read of fs next = on (field of fs) next
+read held fs next = on (field held fs) next
 
 -- each field holds 0
 abbrev pub unused : List (ℕ × List ℕ) → Result (Unit {0}) ReaderFault
