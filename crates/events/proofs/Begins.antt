@@ -1,9 +1,13 @@
 -- A line by its first two bytes, and by its fields.
-use Rattle.std.proofs.Common.{◌≡◌, ℕ, ◌≤◌, Bool, true, false, cond, eqb, ltb, List, [], ◌∷◌, length, get_or, drop, Some, None, Option, Err, sym, refl, ap, ◌∙◌, arith, le-ltb, eqb-true}
+use Rattle.std.proofs.Common.{◌≡◌, ℕ, ◌≤◌, Bool, true, false, cond, eqb, ltb, List, [], ◌∷◌, length, get_or, drop, Some, None, Option, Err, sym, refl, ap, ◌∙◌, arith, le-ltb, eqb-true, ne_eqb}
 use Rattle.std.specs.List.{onto_first}
 use Rattle.events.specs.declared.fault.ReaderFault.TheVariants.{Shape}
 use Rattle.events.specs.Lines.{fields, placed}
-use Rattle.events.specs.Events.{Form, t_line, h_line, b_line, e_line, c_line, p_line, letter_of, event_in, event_with, event_from, event_of}
+use Rattle.events.specs.Events.{Form, t_line, h_line, b_line, e_line, c_line, p_line, form_of, event_in, event_with, event_from, event_of}
+
+-- the form of a letter
+abbrev letter_of : ℕ → Option Form
+letter_of c = form_of (c ∷ [])
 
 -- the form of a line that begins with a letter and a comma
 abbrev pub begins : List ℕ → Option Form
@@ -17,13 +21,16 @@ no_fields e_line = refl
 no_fields c_line = refl
 no_fields p_line = refl
 
+two_letters : (c d : ℕ) (f : List ℕ) → form_of (c ∷ d ∷ f) ≡ None
+two_letters c d f = simp (ne_eqb (length (c ∷ d ∷ f)) 1 (λ e. omega arith)) refl
+
 -- b and e: the first byte is a comma, and the second
 two_bytes : (c d : ℕ) (fs : List (List ℕ)) (b e : Bool) → (b ≡ true → c ≡ 44) → event_from (cond b ([] ∷ cond e ([] ∷ fs) (onto_first d fs)) (onto_first c (cond e ([] ∷ fs) (onto_first d fs)))) ≡ event_with (cond e (letter_of c) None) (placed 3 fs)
 two_bytes c d fs true true h = sym (ap (λ n. event_with (letter_of n) (placed 3 fs)) (h refl))
 two_bytes c d fs true false h = refl
 two_bytes c d fs false true h = refl
 two_bytes c d [] false false h = refl
-two_bytes c d (f ∷ fs) false false h = refl
+two_bytes c d (f ∷ fs) false false h = ap (λ n. event_with n (placed 3 fs)) (two_letters c d f)
 
 one_byte : (c : ℕ) (b : Bool) → event_from (cond b ([] ∷ [] ∷ []) ((c ∷ []) ∷ [])) ≡ Err Shape
 one_byte c true = refl

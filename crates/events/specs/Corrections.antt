@@ -17,7 +17,7 @@ finding_in fs =
     read known_of fs (λ known fs. read figure_of fs (λ first fs. read figure_of fs (λ last fs.
     Ok (record { cause = cause; side = side; notice = notice; ascertained = known; span = record { first = first; last = last } }, fs)))))))
 
--- m,t  f  f  kVA,utilization,power factor,load factor,s
+-- a method's own figures: m,t of M, f of P and of L, kVA,utilization,power factor,load factor,s of D
 abbrev pub basis_by : MethodName → List (ℕ × List ℕ) → Result (Basis × List (ℕ × List ℕ)) ReaderFault
 basis_by TestMeter fs =
     read kwh_of fs (λ shown fs. read kwh_of fs (λ tested fs.

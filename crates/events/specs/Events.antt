@@ -7,6 +7,7 @@ use Rattle.events.specs.declared.fault.ReaderFault.{ReaderFault}
 use Rattle.events.specs.declared.fault.ReaderFault.TheVariants.{TooLong, Shape}
 use Rattle.events.specs.Lines.{fields, placed}
 use Rattle.events.specs.Figures.{figure_of, kwh_of, kva_of, cents_of}
+use Rattle.events.specs.Letters.{one_of}
 use Rattle.events.specs.Reads.{on, read, unused}
 use Rattle.events.specs.Corrections.{finding_in, basis_in}
 
@@ -14,21 +15,9 @@ use Rattle.events.specs.Corrections.{finding_in, basis_in}
 pub data Form : Type 0 where
   t_line h_line b_line e_line c_line p_line : Form
 
--- the form of a letter
-abbrev pub letter_of : ℕ → Option Form
-letter_of c =
-    cond (c == 84) (Some t_line)
-    (cond (c == 72) (Some h_line)
-    (cond (c == 66) (Some b_line)
-    (cond (c == 69) (Some e_line)
-    (cond (c == 67) (Some c_line)
-    (cond (c == 80) (Some p_line) None)))))
-
--- the form that the first field names: it is one letter
+-- the form that the first field names: it is one letter, T H B E C P
 abbrev pub form_of : List ℕ → Option Form
-form_of [] = None
-form_of (c ∷ []) = letter_of c
-form_of (c ∷ d ∷ cs) = None
+form_of f = one_of ((84, t_line) ∷ (72, h_line) ∷ (66, b_line) ∷ (69, e_line) ∷ (67, c_line) ∷ (80, p_line) ∷ []) f
 
 -- how many fields follow the letter
 abbrev pub fields_after : Form → ℕ

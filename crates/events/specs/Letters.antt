@@ -1,4 +1,4 @@
--- The kinds of fields that hold one letter, by the letter's byte. Assumes nothing.
+-- The kinds of fields that hold one byte, a letter or 0, by tables. Assumes nothing.
 use Rattle.std.specs.Prelude.{ℕ, Bool, true, false, cond, List, [], ◌∷◌, length, Some, None, Option, ◌==◌, slice_index}
 use Rattle.method.specs.declared.finding.Cause.{Cause}
 use Rattle.method.specs.declared.finding.Cause.TheVariants.{Absent, Under, Over, Stopped, Altered}

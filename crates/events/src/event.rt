@@ -44,11 +44,11 @@ pub enum Basis {
         shown: Kwh,
         tested: Kwh,
     },
-    /// Three rows from this one on, just before the span.
+    /// Three rows from this one on, to be those just before the span.
     PreviousThree {
         from: u64,
     },
-    /// Three rows from this one on, just after the span.
+    /// Three rows from this one on, to be those just after the span.
     LaterThree {
         from: u64,
     },

@@ -1,4 +1,4 @@
-// The events of an account, read from a text: lines, their fields, and the figures that stand in them.
+// The events of an account, read from a text: lines, their fields, and the figures and letters that stand in them.
 #![tactic(auto)]
 
 pub mod event;

@@ -14,7 +14,7 @@ use method::finding::{Finding, Span};
 fn read_take(mut fields: Fields<'_>) -> Result<Event, ReaderFault>
     ensures value { result ≡ event_in t_line (fields_left fields.entry) }
 {
-    fields.expect(2)?;
+    fields.require_count(2)?;
     let moment = fields.parse()?;
     let span = fields.parse()?;
     Ok(Event::Take { moment, span })
@@ -23,7 +23,7 @@ fn read_take(mut fields: Fields<'_>) -> Result<Event, ReaderFault>
 fn read_hand_back(mut fields: Fields<'_>) -> Result<Event, ReaderFault>
     ensures value { result ≡ event_in h_line (fields_left fields.entry) }
 {
-    fields.expect(1)?;
+    fields.require_count(1)?;
     let hold = fields.parse()?;
     Ok(Event::HandBack { hold })
 }
@@ -31,7 +31,7 @@ fn read_hand_back(mut fields: Fields<'_>) -> Result<Event, ReaderFault>
 fn read_bill(mut fields: Fields<'_>) -> Result<Event, ReaderFault>
     ensures value { result ≡ event_in b_line (fields_left fields.entry) }
 {
-    fields.expect(5)?;
+    fields.require_count(5)?;
     let hold = fields.parse()?;
     let last = fields.parse()?;
     let day = fields.parse()?;
@@ -48,7 +48,7 @@ fn read_bill(mut fields: Fields<'_>) -> Result<Event, ReaderFault>
 fn read_estimate(mut fields: Fields<'_>) -> Result<Event, ReaderFault>
     ensures value { result ≡ event_in e_line (fields_left fields.entry) }
 {
-    fields.expect(5)?;
+    fields.require_count(5)?;
     let hold = fields.parse()?;
     let last = fields.parse()?;
     let figure = fields.parse()?;
@@ -109,7 +109,7 @@ fn read_basis(fields: &mut Fields<'_>) -> Result<Basis, ReaderFault>
 fn read_correct(mut fields: Fields<'_>) -> Result<Event, ReaderFault>
     ensures value { result ≡ event_in c_line (fields_left fields.entry) }
 {
-    fields.expect(13)?;
+    fields.require_count(13)?;
     let hold = fields.parse()?;
     let finding = read_finding(&mut fields)?;
     let basis = read_basis(&mut fields)?;
@@ -124,7 +124,7 @@ fn read_correct(mut fields: Fields<'_>) -> Result<Event, ReaderFault>
 fn read_pay(mut fields: Fields<'_>) -> Result<Event, ReaderFault>
     ensures value { result ≡ event_in p_line (fields_left fields.entry) }
 {
-    fields.expect(2)?;
+    fields.require_count(2)?;
     let hold = fields.parse()?;
     let cents = fields.parse()?;
     Ok(Event::Pay { hold, cents })

@@ -44,8 +44,8 @@ impl<'a> Fields<'a> {
         }
     }
 
-    /// Are as many fields left as the form asks?
-    pub(crate) fn expect(&self, asked: usize) -> Result<(), ReaderFault>
+    /// The form asks for so many fields.
+    pub(crate) fn require_count(&self, asked: usize) -> Result<(), ReaderFault>
         ensures value { result ≡ (if nat_eq (length (fields_left self.now)) asked then Ok tt else Err Shape) }
     {
         if self.count_left() != asked {
@@ -54,7 +54,7 @@ impl<'a> Fields<'a> {
         Ok(())
     }
 
-    /// What the next field holds.
+    /// What the next field holds; none is left only where more are read than were counted.
     pub(crate) fn parse<T: FromField>(&mut self) -> Result<T, ReaderFault>
         ensures value { field T.FromField.held (fields_left self.old) ≡ with_left result self.new }
     {
