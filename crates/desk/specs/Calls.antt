@@ -22,13 +22,19 @@ method_of ps (PreviousThree from) = previous_made from ps
 method_of ps (LaterThree from) = later_made from ps
 method_of ps (ContractDemand kva utilization power load peak) = contract_made kva.0 utilization power load peak
 
--- a call that brings a method: the method is made before it
-abbrev pub call_by : (Method → Call) → Result Method ℕ → Result Call ℕ
-call_by call (Ok m) = Ok (call m)
-call_by call (Err n) = Err n
+-- what a line is answered: the layer, the number of the question that said no, or 0, and the value
+pub record Outcome : Type 0 where
+  pub layer : Layer
+  pub number : ℕ
+  pub value : ℤ
 
--- the call that an event makes, or the number by which its method is refused
-abbrev pub call_of : List Period → Event → Result Call ℕ
+-- a call that brings a method: the method is made before it, or answers in its place
+abbrev pub call_by : (Method → Call) → Result Method ℕ → Result Call Outcome
+call_by call (Ok m) = Ok (call m)
+call_by call (Err n) = Err (record { layer = By-method; number = n; value = pos 0 })
+
+-- the call that an event makes, for a sheet with these periods
+abbrev pub call_of : List Period → Event → Result Call Outcome
 call_of ps (Take moment span) = Ok (rules.take moment span)
 call_of ps (HandBack hold) = Ok (rules.hand_back hold)
 call_of ps (Bill hold last reading) = Ok (rules.bill hold last (reading_of reading))
@@ -36,28 +42,17 @@ call_of ps (Estimate hold last figure peak demand) = call_by (rules.estimate hol
 call_of ps (Correct hold finding basis) = call_by (rules.correct hold (finding_of finding)) (method_of ps basis)
 call_of ps (Pay hold cents) = Ok (rules.pay hold cents.0)
 
--- what a line is answered: the layer, the number of the question that said no, or 0, and the value
-pub record Outcome : Type 0 where
-  pub layer : Layer
-  pub number : ℕ
-  pub value : ℤ
+-- the call that a line makes: of its event, or the reader answers in its place
+abbrev pub line_call : List Period → Result Event ReaderFault → Result Call Outcome
+line_call ps (Ok e) = call_of ps e
+line_call ps (Err f) = Err (record { layer = Reader; number = reader.fault_number f; value = pos (reader.fault_value f) })
 
--- by the account where the call is made, else by the method
-abbrev pub called : Tariff → Opening → State → Result Call ℕ → Outcome × State
-called t o s (Ok c) = let done = step t o s c in (record { layer = Account; number = done.0.number; value = done.0.value }, done.1)
-called t o s (Err n) = (record { layer = By-method; number = n; value = pos 0 }, s)
-
--- by the reader where the line is no event; the account is then as it was
-abbrev pub served : Tariff → Opening → State → Result Event ReaderFault → Outcome × State
-served t o s (Ok e) = called t o s (call_of (periods_of s) e)
-served t o s (Err f) = (record { layer = Reader; number = reader.fault_number f; value = pos (reader.fault_value f) }, s)
+-- a call is answered by the account; where none is made the account stays as it was
+abbrev pub answered : Tariff → Opening → State → Result Call Outcome → Outcome × State
+answered t o s (Ok c) = let done = step t o s c in (record { layer = Account; number = done.0.number; value = done.0.value }, done.1)
+answered t o s (Err out) = (out, s)
 
 -- the calls made, newest first, and then this one, if it is made
-abbrev pub with_call : List Call → Result Call ℕ → List Call
+abbrev pub with_call : List Call → Result Call Outcome → List Call
 with_call h (Ok c) = c ∷ h
-with_call h (Err n) = h
-
--- the calls made once a line was read, for a sheet with these periods: a line that reader or method refuses makes none
-abbrev pub heard : List Period → List Call → Result Event ReaderFault → List Call
-heard ps h (Ok e) = with_call h (call_of ps e)
-heard ps h (Err f) = h
+with_call h (Err out) = h

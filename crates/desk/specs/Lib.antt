@@ -1,3 +1,3 @@
 pub mod Faults
 pub mod Calls
-pub mod Served
+pub mod Called

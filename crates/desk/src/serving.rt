@@ -1,11 +1,11 @@
-// Lines served: each is read, its method made, and its call put to the account.
+// What is done for one line.
 ghost use Rattle.rules.specs.Subject.{correct as correcting};
 ghost use Rattle.rules.specs.Machine.{periods_of};
 ghost use Rattle.method.specs.Uses.{finding_of};
 ghost use Rattle.account.specs.State.{state_of};
 ghost use Rattle.events.specs.Events.{event_of};
-ghost use Rattle.desk.specs.Calls.{method_of, call_by, call_of};
-ghost use Rattle.desk.specs.Served.{Called, Served};
+ghost use Rattle.desk.specs.Calls.{method_of, call_by, call_of, line_call};
+ghost use Rattle.desk.specs.Called.{Called};
 
 use crate::fault::Fault;
 use account::account::Account;
@@ -55,8 +55,8 @@ fn correct<T: Tariff>(
     }
 }
 
-/// Makes the call that an event asks for. The value is the hold, the cents billed, the cents that a correction comes to or the
-/// cents paid: one number on the page, whatever it counts.
+/// Makes the call that an event asks for. The value is one number, whatever it counts: the hold, 0 for a hand back, the cents
+/// billed, the cents that a correction comes to or the cents paid.
 fn call<T: Tariff>(account: &mut Account<T>, event: Event) -> Result<i64, Fault>
     ensures after { Called T.Tariff.meaning account.old account.new (call_of (periods_of (state_of account.old)) event) result }
 {
@@ -90,9 +90,9 @@ fn call<T: Tariff>(account: &mut Account<T>, event: Event) -> Result<i64, Fault>
     }
 }
 
-/// Reads a line, makes its method and its call; a refusal names the layer that gave it.
+/// Reads a line and serves its event; a refusal names the layer that gave it.
 pub fn serve<T: Tariff>(account: &mut Account<T>, line: &[u8]) -> Result<i64, Fault>
-    ensures after { Served T.Tariff.meaning account.old account.new (event_of line.now) result }
+    ensures after { Called T.Tariff.meaning account.old account.new (line_call (periods_of (state_of account.old)) (event_of line.now)) result }
 {
     let event = read_event(line)?;
     call(account, event)

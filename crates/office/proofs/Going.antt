@@ -14,7 +14,7 @@ use Rattle.events.specs.declared.fault.ReaderFault.{ReaderFault}
 use Rattle.events.specs.Events.{event_of}
 use Rattle.desk.specs.declared.fault.Fault.{Fault}
 use Rattle.desk.specs.Calls.{call_of, called, served, with_call, heard}
-use Rattle.desk.specs.Served.{outcome_of, Served}
+use Rattle.desk.specs.Called.{outcome_of, Served}
 use Rattle.office.specs.declared.kept.Page.{Page}
 use Rattle.office.specs.Pages.{Wrote}
 use Rattle.office.specs.Texts.{told}

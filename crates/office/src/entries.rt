@@ -1,7 +1,7 @@
 // The lines of a statement's page.
 ghost use Rattle.std.specs.Prelude.{◌≡◌};
 ghost use Rattle.figures.specs.View.{letter_of, line_seen};
-ghost use Rattle.desk.specs.Served.{outcome_of};
+ghost use Rattle.desk.specs.Called.{outcome_of};
 ghost use Rattle.office.specs.Pages.{Wrote};
 ghost use Rattle.office.specs.Texts.{layer_letter, line_letter, row_text, answer_line, told, journal_line, sums_line};
 
