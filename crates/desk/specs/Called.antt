@@ -1,5 +1,5 @@
 -- An account before and after a line of the text. Assumes nothing.
-use Rattle.std.specs.Prelude.{◌≡◌, ℕ, drop, ℤ, pos, Ok, Err, Result}
+use Rattle.std.specs.Prelude.{◌≡◌, drop, ℤ, pos, Ok, Err, Result}
 use Rattle.rules.specs.Subject.{Tariff, Call}
 use Rattle.account.specs.declared.account.Account.{Account}
 use Rattle.account.specs.State.{state_of, opening_of}

@@ -2,7 +2,7 @@
 use Rattle.std.specs.Prelude.{ℕ, List, ◌∷◌, ℤ, pos, Ok, Err, Result}
 use Rattle.rules.specs.Subject as rules
 use Rattle.rules.specs.Subject.{Period, Tariff, Method, Call, Opening}
-use Rattle.rules.specs.Machine.{State, periods_of, step}
+use Rattle.rules.specs.Machine.{State, step}
 use Rattle.figures.specs.View.{reading_of}
 use Rattle.method.specs.Uses.{finding_of}
 use Rattle.method.specs.Made.{test_made, category_made, contract_made, previous_made, later_made}

@@ -1,6 +1,6 @@
 -- A walk over the lines of a text: what is done, and what is left. Assumes nothing.
 use Rattle.std.proofs.Common.{◌≡◌, ℕ, List, [], ◌∷◌, ◌++◌, ℤ, Ok, Err, Result, sym, refl, ap, ◌∙◌}
-use Rattle.std.proofs.lemmas.List.{append-nil, append_assoc}
+use Rattle.std.proofs.lemmas.List.{append_assoc}
 use Rattle.rules.specs.Subject.{Period, Tariff, Call, Opening}
 use Rattle.rules.specs.Questions.{Books}
 use Rattle.rules.specs.Given.{accepted}
@@ -9,34 +9,26 @@ use Rattle.rules.specs.Machine.{State, view, periods_of, after}
 use Rattle.rules.proofs.Runs.{view_ran, after_ran}
 use Rattle.account.specs.declared.account.Account.{Account}
 use Rattle.account.specs.State.{state_of, opening_of}
-use Rattle.events.specs.declared.event.Event.{Event}
-use Rattle.events.specs.declared.fault.ReaderFault.{ReaderFault}
 use Rattle.events.specs.Events.{event_of}
 use Rattle.desk.specs.declared.fault.Fault.{Fault}
-use Rattle.desk.specs.Calls.{call_of, called, served, with_call, heard}
-use Rattle.desk.specs.Called.{outcome_of, Served}
+use Rattle.desk.specs.Calls.{Outcome, line_call, answered, with_call}
+use Rattle.desk.specs.Called.{outcome_of, Called}
 use Rattle.office.specs.declared.kept.Page.{Page}
+use Rattle.office.specs.declared.page.Full.{Full}
 use Rattle.office.specs.Pages.{Wrote}
 use Rattle.office.specs.Texts.{told}
-use Rattle.office.specs.Statement.{with_line, calls, replies}
-use Rattle.office.specs.Ran.{Ran}
-use Rattle.office.proofs.Steps.{◌then◌, wrote_none}
+use Rattle.office.specs.Statement.{call_after, calls, replies}
+use Rattle.office.proofs.Steps.{◌then◌, wrote_none, stopped, spelled_as}
 
 -- the account's periods are those that the accepted calls give
 periods_after : (t : Tariff) (o : Opening) (h : List Call) → periods_of (after t o h) ≡ billed o (accepted o h)
 periods_after t o h = ap (λ (s : State). (view s).periods) (after_ran t o h) ∙ ap (λ (b : Books). b.periods) (view_ran t o (accepted o h))
 
 -- the state after a line is that after its call, if it makes one
-called_after : (t : Tariff) (o : Opening) (h : List Call) (c : Result Call ℕ) → (called t o (after t o h) c).1 ≡ after t o (with_call h c)
+answered_after : (t : Tariff) (o : Opening) (h : List Call) (c : Result Call Outcome) → (answered t o (after t o h) c).1 ≡ after t o (with_call h c)
 unfolding after
-called_after t o h (Ok c) = refl
-called_after t o h (Err n) = refl
-
-served_after : (t : Tariff) (o : Opening) (h : List Call) (e : Result Event ReaderFault) → (served t o (after t o h) e).1 ≡ after t o (heard (billed o (accepted o h)) h e)
-served_after t o h (Ok e) =
-    called_after t o h (call_of (periods_of (after t o h)) e)
-    ∙ ap (λ (ps : List Period). after t o (with_call h (call_of ps e))) (periods_after t o h)
-served_after t o h (Err f) = refl
+answered_after t o h (Ok c) = refl
+answered_after t o h (Err out) = refl
 
 -- a with the page p has become b with the page q, and of all lines these are left
 pub record Going {T : Type 0} (mean : T → Tariff) (a b : Account T) (p q : Page) (all left : List (List ℕ)) : Type 0 where
@@ -62,55 +54,44 @@ module _ {T : Type 0} (mean : T → Tariff) (a : Account T) (p : Page) (all : Li
     heard_all = ap (calls (opening_of a) []) is;
   }
 
-  module _ (b d : Account T) (q r : Page) (l : List ℕ) (rest left : List (List ℕ)) (z : Result ℤ Fault) (g : Going mean a b p q all left) (is : left ≡ l ∷ rest) (s : Served mean b d (event_of l) z) where
-    -- a line is answered as the state before it has it
-    line_said : told (outcome_of z) ≡ told (served (mean a.tariff) (opening_of a) (after (mean a.tariff) (opening_of a) g.made) (event_of l)).0
-    line_said =
-        ap told
-        (s.answer
-        ∙ ap (λ (x : Tariff). (served x (opening_of b) (state_of b) (event_of l)).0) g.tariff
-        ∙ ap (λ (x : Opening). (served (mean a.tariff) x (state_of b) (event_of l)).0) g.opening
-        ∙ ap (λ (x : State). (served (mean a.tariff) (opening_of a) x (event_of l)).0) g.state)
+  module _ (b d : Account T) (q r : Page) (l : List ℕ) (rest left : List (List ℕ)) (z : Result ℤ Fault) (g : Going mean a b p q all left) (is : left ≡ l ∷ rest) (s : Called mean b d (line_call (periods_of (state_of b)) (event_of l)) z) where
+    -- a line's call is answered as after the calls before it
+    answered_so : answered (mean b.tariff) (opening_of b) (state_of b) (line_call (periods_of (state_of b)) (event_of l)) ≡ answered (mean a.tariff) (opening_of a) (after (mean a.tariff) (opening_of a) g.made) (call_after (opening_of a) g.made l)
+    answered_so =
+        let t = mean a.tariff in
+        let o = opening_of a in
+        let e = event_of l in
+        ap (λ (x : Tariff). answered x (opening_of b) (state_of b) (line_call (periods_of (state_of b)) e)) g.tariff
+        ∙ ap (λ (x : Opening). answered t x (state_of b) (line_call (periods_of (state_of b)) e)) g.opening
+        ∙ ap (λ (x : State). answered t o x (line_call (periods_of x) e)) g.state
+        ∙ ap (λ (ps : List Period). answered t o (after t o g.made) (line_call ps e)) (periods_after t o g.made)
 
-    line_left : (g.written ++ told (outcome_of z)) ++ replies (mean a.tariff) (opening_of a) (with_line (opening_of a) g.made l) rest ≡ replies (mean a.tariff) (opening_of a) [] all
+    line_left : (g.written ++ told (outcome_of z)) ++ replies (mean a.tariff) (opening_of a) (with_call g.made (call_after (opening_of a) g.made l)) rest ≡ replies (mean a.tariff) (opening_of a) [] all
     line_left =
         let t = mean a.tariff in
         let o = opening_of a in
         append_assoc g.written (told (outcome_of z)) _
-        ∙ ap (λ x. g.written ++ (x ++ replies t o (with_line o g.made l) rest)) line_said
+        ∙ ap (λ x. g.written ++ (told x ++ replies t o (with_call g.made (call_after o g.made l)) rest)) (s.answer ∙ ap (λ x. x.0) answered_so)
         ∙ ap (λ x. g.written ++ replies t o g.made x) (sym is)
         ∙ g.answers
+
+    -- the answer did not fit, whatever was to come after the answers
+    pub going_stopped : {e : Full} (u : List ℕ) → Wrote q r (Err e) (told (outcome_of z)) → Wrote p r (Err e) (replies (mean a.tariff) (opening_of a) [] all ++ u)
+    going_stopped u w =
+        let later = replies (mean a.tariff) (opening_of a) (with_call g.made (call_after (opening_of a) g.made l)) rest in
+        spelled_as (sym (append_assoc (g.written ++ told (outcome_of z)) later u) ∙ ap (λ x. x ++ u) line_left) (stopped (later ++ u) (g.page then w))
 
     pub going_more : Wrote q r (Ok tt) (told (outcome_of z)) → Going mean a d p r all rest
     going_more w =
         let t = mean a.tariff in
         let o = opening_of a in
         record {
-          made = with_line o g.made l;
+          made = with_call g.made (call_after o g.made l);
           written = g.written ++ told (outcome_of z);
-          state =
-              s.state
-              ∙ ap (λ (x : Tariff). (served x (opening_of b) (state_of b) (event_of l)).1) g.tariff
-              ∙ ap (λ (x : Opening). (served t x (state_of b) (event_of l)).1) g.opening
-              ∙ ap (λ (x : State). (served t o x (event_of l)).1) g.state
-              ∙ served_after t o g.made (event_of l);
+          state = s.state ∙ ap (λ x. x.1) answered_so ∙ answered_after t o g.made (call_after o g.made l);
           opening = s.opening ∙ g.opening;
           tariff = s.tariff ∙ g.tariff;
           page = g.page then w;
           answers = line_left;
           heard_all = ap (calls o g.made) (sym is) ∙ g.heard_all;
         }
-
-  pub going_state : (b : Account T) (q : Page) (left : List (List ℕ)) → Going mean a b p q all left → left ≡ [] → Ran mean a b all
-  going_state b q left g is = record {
-    state = g.state ∙ ap (after (mean a.tariff) (opening_of a)) (sym (ap (calls (opening_of a) g.made) is) ∙ g.heard_all);
-    opening = g.opening;
-    tariff = g.tariff;
-  }
-
-  pub going_text : (b : Account T) (q : Page) (left : List (List ℕ)) → Going mean a b p q all left → left ≡ [] → Wrote p q (Ok tt) (replies (mean a.tariff) (opening_of a) [] all)
-  going_text b q left g is =
-      let whole : g.written ≡ replies (mean a.tariff) (opening_of a) [] all =
-      sym (append-nil g.written) ∙ sym (ap (λ x. g.written ++ replies (mean a.tariff) (opening_of a) g.made x) is) ∙ g.answers
-      in
-      rw whole at g.page

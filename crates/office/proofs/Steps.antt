@@ -1,5 +1,5 @@
 -- What is written piece by piece.
-use Rattle.std.proofs.Common.{◌≡◌, ℕ, ◌+◌, ◌<◌, ◌≤◌, List, [], ◌∷◌, ◌++◌, map, length, get_or, take, drop, Some, None, Ok, Err, Option, Result, refl, sym, ap, ◌∙◌, subst, ⊎_elim, add_assoc, take-append-drop, arith}
+use Rattle.std.proofs.Common.{rules, ◌≡◌, ℕ, ◌+◌, ◌<◌, ◌≤◌, List, [], ◌∷◌, ◌++◌, map, length, get_or, take, drop, Some, None, Ok, Err, Option, Result, refl, sym, ap, ◌∙◌, subst, ⊎_elim, add_assoc, take-append-drop, arith}
 use Rattle.std.specs.Prelude.{IsErr}
 use Rattle.std.specs.List.{flat_map}
 use Rattle.std.proofs.lemmas.List.{append-nil, append_assoc, length-append, length-take, map-append, map_push, take_more, flat_map_more}
@@ -7,7 +7,7 @@ use Rattle.std.proofs.lemmas.List.Concat.{flat_map-append}
 use Rattle.std.proofs.lemmas.Bool.{le-leb, lt-leb, cases_lt}
 use Rattle.office.specs.declared.kept.Page.{Page}
 use Rattle.office.specs.declared.page.Full.{Full}
-use Rattle.office.specs.Pages.{held, put, kept, Wrote}
+use Rattle.office.specs.Pages.{held, put, kept, Wrote, fitted}
 
 -- two writes are one
 put_put : (n : ℕ) (o : Option (List ℕ)) (t u : List ℕ) → put n (put n o t) u ≡ put n o (t ++ u)
@@ -56,6 +56,21 @@ err_kept q (Err e) h = refl
 
 pub risen : {p q : Page} {z : Result (Unit {0}) Full} {e : Full} {t : List ℕ} → IsErr z → Wrote p q (Err e) t → Wrote p q z t
 risen {p} {q} {z} h a = record { lent = a.lent; long = a.long; text = err_kept q z h ∙ a.text }
+
+full_err : (r : Result ℕ Full) → IsErr r → r ≡ Err (record {})
+full_err (Ok n) h = cc
+full_err (Err e) h = refl
+
+-- a text that a blank page had no room for does not fit it
+pub unfit : {p q : Page} {e : Full} {t : List ℕ} (n : ℕ) (r : Result ℕ Full) → IsErr r → held p ≡ [] → length p.bytes.now ≡ n → Wrote p q (Err e) t → r ≡ fitted n t
+unfit {p} {q} {e} {t} n r h blank long w =
+    let none : ◌≡◌ {A = Option (List ℕ)} None (put n (Some []) t) =
+    w.text ∙ ap (λ s. put (length p.bytes.now) (Some s) t) blank ∙ ap (λ m. put m (Some []) t) long
+    in
+    ⊎_elim
+    (λ (over : n < length t). full_err r h ∙ sym (simp (lt-leb _ _ over) refl))
+    (λ (fits : length t ≤ n). absurd (search (rules, none, le-leb _ _ fits)))
+    (cases_lt n (length t))
 
 -- the same text in another form
 pub spelled_as : {p q : Page} {r : Result (Unit {0}) Full} {t u : List ℕ} → t ≡ u → Wrote p q r t → Wrote p q r u

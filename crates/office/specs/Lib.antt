@@ -1,6 +1,5 @@
 pub mod Pages
 pub mod Texts
 pub mod Statement
-pub mod Ran
 pub mod Refusals
 pub mod Office

@@ -1,27 +1,27 @@
 -- What the page of a statement shows, by the lines of its text. Assumes nothing.
-use Rattle.std.specs.Prelude.{ℕ, List, [], ◌∷◌, ◌++◌}
+use Rattle.std.specs.Prelude.{ℕ, List, [], ◌∷◌, ◌++◌, Result}
 use Rattle.std.specs.List.{flat_map}
 use Rattle.rules.specs.Subject.{Tariff, Call, Opening}
 use Rattle.rules.specs.Given.{accepted}
 use Rattle.rules.specs.Law.{Shown, billed}
 use Rattle.rules.specs.Machine.{after, shown}
 use Rattle.events.specs.Events.{event_of}
-use Rattle.desk.specs.Calls.{served, heard}
+use Rattle.desk.specs.Calls.{Outcome, line_call, answered, with_call}
 use Rattle.office.specs.Texts.{told, journal_line, sums_line}
 
--- the calls made, newest first, and then the line's: a method is made of the periods that the accepted calls before it give
-abbrev pub with_line : Opening → List Call → List ℕ → List Call
-with_line o h l = heard (billed o (accepted o h)) h (event_of l)
+-- the call that a line makes after these calls: its method is made of the periods that the accepted ones give
+abbrev pub call_after : Opening → List Call → List ℕ → Result Call Outcome
+call_after o h l = line_call (billed o (accepted o h)) (event_of l)
 
 -- the calls that the lines make, newest first, after those made before them
 abbrev pub calls : Opening → List Call → List (List ℕ) → List Call
 calls o h [] = h
-calls o h (l ∷ ls) = calls o (with_line o h l) ls
+calls o h (l ∷ ls) = calls o (with_call h (call_after o h l)) ls
 
 -- one answer for each line, in the state that the calls before it leave
 abbrev pub replies : Tariff → Opening → List Call → List (List ℕ) → List ℕ
 replies t o h [] = []
-replies t o h (l ∷ ls) = told (served t o (after t o h) (event_of l)).0 ++ replies t o (with_line o h l) ls
+replies t o h (l ∷ ls) = told (answered t o (after t o h) (call_after o h l)).0 ++ replies t o (with_call h (call_after o h l)) ls
 
 -- what an account shows: every line of its journal, and its sums
 abbrev pub shown_text : Shown → List ℕ
