@@ -3,6 +3,8 @@
 
 mod session;
 
+ghost use Rattle.std.specs.Prelude.{◌≡◌, ◌↔◌, IsOk};
+
 use anyhow::anyhow;
 use office::statement::statement;
 use session::{SESSIONS, Session};
@@ -27,15 +29,22 @@ fn page_of(rt: &HostRuntime, session: &Session) -> anyhow::Result<String> {
     String::from_utf8(page).map_err(|_| anyhow!("its page is no text"))
 }
 
-/// Whether a page is the stored one; if not, the first line that differs is told beside the stored one.
-fn compare(page: &str, stored: &str) -> anyhow::Result<()> {
+/// The first line of a page that is not the stored one, beside that.
+fn difference(page: &str, stored: &str) -> anyhow::Error {
     for (line, wanted) in page.split('\n').zip(stored.split('\n')) {
         if line != wanted {
-            return Err(anyhow!("'{line}' where '{wanted}' is stored"));
+            return anyhow!("'{line}' where '{wanted}' is stored");
         }
     }
-    if page.len() != stored.len() {
-        return Err(anyhow!("{} bytes where {} are stored", page.len(), stored.len()));
+    anyhow!("{} bytes where {} are stored", page.len(), stored.len())
+}
+
+/// Whether a page is the stored one.
+fn compare(page: &str, stored: &str) -> anyhow::Result<()>
+    ensures { IsOk result ↔ (page.now ≡ stored.now) }
+{
+    if page != stored {
+        return Err(difference(page, stored));
     }
     Ok(())
 }
