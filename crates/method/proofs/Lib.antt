@@ -1,3 +1,4 @@
 pub mod Three
 pub mod Same
 pub mod Made
+pub mod ReadRows

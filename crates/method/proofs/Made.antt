@@ -11,7 +11,7 @@ use Rattle.method.specs.declared.later_three.LaterThree.{LaterThree}
 use Rattle.method.specs.Meaning.{part, daily, test_fits, of_both, stopping, missing, just_before, just_after}
 use Rattle.method.specs.Three.{three_from, are_three}
 use Rattle.method.specs.Making.{test_asked, category_asked, contract_asked, previous_asked, later_asked}
-use Rattle.method.specs.Made.{made_if, test_made, category_made, contract_made, of_three, previous_made, later_made}
+use Rattle.method.specs.Made.{made_if, test_made, category_made, contract_made, made_of_rows, previous_made, later_made}
 use Rattle.method.specs.Meant.{test_of, category_of, contract_of, three_of, previous_of, later_of}
 use Rattle.method.specs.Reckoned.{Reckoned}
 use Rattle.method.proofs.Same.{same_method}
@@ -39,7 +39,7 @@ contract_made_of m kva utilization power load s all is-kva is-utilization is-pow
     refl refl (λ i days r. (is-kva i * is-utilization i + 99) / 100))
 
 -- for any uses, and any spans that rest on the first row's number
-three_same : (uses : Use → Bool) (fitness : ℕ → Use → ℕ → ℕ → Bool) (t : ThreeRows) (f : ℕ) (ps : List Period) (are : are_three ps ≡ true) → t.from ≡ f → Reckoned t ps → three_of uses (fitness t.from) t ≡ of_three uses (fitness f) ps are
+three_same : (uses : Use → Bool) (fitness : ℕ → Use → ℕ → ℕ → Bool) (t : ThreeRows) (f : ℕ) (ps : List Period) (are : are_three ps ≡ true) → t.from ≡ f → Reckoned t ps → three_of uses (fitness t.from) t ≡ made_of_rows uses (fitness f) ps are
 three_same uses fitness t f ps are is r =
     same_method _ _ refl (ap fitness is) (λ i. of_both (r.day i) (r.peak i)) r.days refl (λ i days g. r.demand i)
 

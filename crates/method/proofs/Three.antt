@@ -1,16 +1,14 @@
 -- The first three of the rows from a row on, as the code reads them. Assumes nothing.
-use Rattle.std.proofs.Common.{◌≡◌, ℕ, suc, ◌+◌, ◌-◌, ◌<◌, ◌≤◌, true, false, ◌&&◌, List, [], ◌∷◌, map, length, get_or, take, drop, refl, sym, ap, ◌∙◌, arith, length-drop, length-take, ne_eqb}
+use Rattle.std.proofs.Common.{◌≡◌, ℕ, ◌+◌, ◌<◌, ◌≤◌, true, false, ◌&&◌, List, [], ◌∷◌, map, length, get_or, take, drop, sym, ap, ◌∙◌, arith, length-drop, length-take, ne_eqb}
 use lib.ListN.{length-map}
-use Rattle.std.proofs.lemmas.List.{take-map, drop-map}
-use Rattle.std.proofs.lemmas.Bool.{lt-ltb, le-leb, cond-true, and_from}
-use Rattle.rules.specs.Subject.{day_units, peak_units, longest, Period, is_read}
-use Rattle.rules.specs.Questions.{is_reading, is_term, every, first_no}
+use Rattle.std.proofs.lemmas.List.{drop-map}
+use Rattle.std.proofs.lemmas.Bool.{lt-ltb, cond-true}
+use Rattle.rules.specs.Subject.{day_units, peak_units, Period}
+use Rattle.rules.specs.Questions.{first_no}
 use Rattle.figures.specs.declared.row.Row.{Row}
-use Rattle.figures.specs.declared.units.Registers.{Registers}
-use Rattle.figures.specs.declared.dates.Term.{Term}
-use Rattle.figures.specs.View.{regs, period_seen}
+use Rattle.figures.specs.View.{period_seen}
 use Rattle.method.specs.declared.three_rows.ThreeRows.{ThreeRows}
-use Rattle.method.specs.Three.{three_from, is_read_row, all_read, are_three, units_of}
+use Rattle.method.specs.Three.{three_from, all_read, are_three, units_of}
 use Rattle.method.specs.Making.{previous_asked}
 use Rattle.method.specs.Reckoned.{Reckoned}
 
@@ -36,24 +34,3 @@ with_units t f ps are r some =
     let three = three_from f ps in
     let units : 0 < units_of day_units three + units_of peak_units three = omega (arith, r.day, r.peak) in
     cond-true (are_three three) _ _ are ∙ cond-true _ 0 17 (lt-ltb 0 (units_of day_units three + units_of peak_units three) units)
-
-reading_kept : (r : Registers) → is_reading (regs r) ≡ true
-reading_kept r =
-    and_from _ _ (and_from _ _ (le-leb r.day.figure.0 1000000 r.day.ok) (le-leb r.peak.figure.0 1000000 r.peak.ok)) (le-leb r.demand.figure.0 10000 r.demand.ok)
-
-term_kept : (t : Term) → is_term t.first.figure t.last.figure ≡ true
-term_kept t =
-    let a = t.ordered in
-    let b = t.short in
-    and_from _ _ (le-leb t.first.figure t.last.figure a) (le-leb (t.last.figure + 1 - t.first.figure) longest (omega arith))
-
--- a row of the code keeps its limits, so whether it was read is its sort alone
-by_sort : (r : Row) → is_read_row (period_seen r) ≡ is_read (period_seen r).sort
-by_sort r = grind (arith, reading_kept r.recorded, term_kept r.term)
-
-all_by_sort : (xs : List Row) (n : ℕ) → all_read (map period_seen xs) ≡ every (λ row p. is_read p.sort) n (map period_seen xs)
-all_by_sort [] n = refl
-all_by_sort (x ∷ xs) n = cc (by_sort x, all_by_sort xs (suc n))
-
-pub three_by_sort : (xs : List Row) (f : ℕ) → all_read (three_from f (map period_seen xs)) ≡ every (λ row p. is_read p.sort) 0 (three_from f (map period_seen xs))
-three_by_sort xs f = rw (drop-map, take-map) (all_by_sort (take 3 (drop f xs)) 0)

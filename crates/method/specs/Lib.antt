@@ -3,6 +3,7 @@ pub mod Meaning
 pub mod Meant
 pub mod Reckoned
 pub mod Three
+pub mod ReadRows
 pub mod Uses
 pub mod Limits
 pub mod Made

@@ -42,8 +42,8 @@ contract_made kva utilization power load s = made_if (first_no (contract_asked k
     (leb-true kva 1000 utilization-limit.0) utilization-limit.1 power-limit.1 load-limit.1 s-limit.1)
 
 -- by three rows that were read, for some uses and spans
-abbrev pub of_three : (Use → Bool) → (Use → ℕ → ℕ → Bool) → (ps : List Period) → are_three ps ≡ true → Method
-of_three uses fitness ps are =
+abbrev pub made_of_rows : (Use → Bool) → (Use → ℕ → ℕ → Bool) → (ps : List Period) → are_three ps ≡ true → Method
+made_of_rows uses fitness ps are =
     let limits = three_limits ps are in
     by_three uses fitness (units_of day_units ps) (units_of peak_units ps) (days_of ps) (average_of ps)
     (limits.units day_units) (limits.units peak_units) limits.days_least limits.days_most limits.average
@@ -51,11 +51,11 @@ of_three uses fitness ps are =
 -- by rows f to f + 2 of a sheet with these periods
 abbrev pub previous_made : (f : ℕ) → List Period → Result Method ℕ
 previous_made f ps = made_if (first_no (previous_asked f ps)) (λ all.
-    of_three stopping (just_before f) (three_from f ps) (said_yes 15 (are_three (three_from f ps)) _ all).0)
+    made_of_rows stopping (just_before f) (three_from f ps) (said_yes 15 (are_three (three_from f ps)) _ all).0)
 
 abbrev pub later_made : (f : ℕ) → List Period → Result Method ℕ
 later_made f ps = made_if (first_no (later_asked f ps)) (λ all.
-    of_three missing (just_after f) (three_from f ps) (said_yes 15 (are_three (three_from f ps)) _ all).0)
+    made_of_rows missing (just_after f) (three_from f ps) (said_yes 15 (are_three (three_from f ps)) _ all).0)
 
 -- what a making gave, as it is meant
 abbrev pub made_as : {M : Type 0} → (M → Method) → Result M MethodFault → Result Method ℕ

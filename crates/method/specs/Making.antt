@@ -32,7 +32,7 @@ abbrev pub contract_asked : (kva utilization power load s : ℕ) → List (ℕ �
 contract_asked kva utilization power load s =
     (2, nat_le kva 1000 && nat_le utilization 100 && nat_le power 100 && nat_le load 100 && nat_le s 100) ∷ []
 
--- 16: rows f to f + 2 were read; 17: they have units
+-- 16: rows f to f + 2 are billed and were read, in the limits that every read row of a sheet is in; 17: they have units
 abbrev pub previous_asked : (f : ℕ) → List Period → List (ℕ × Bool)
 previous_asked f ps =
     (16, are_three (three_from f ps))

