@@ -6,6 +6,7 @@ ghost use Rattle.account.specs.State.{state_of};
 ghost use Rattle.events.specs.Events.{event_of};
 ghost use Rattle.desk.specs.Calls.{method_of, call_by, call_of, line_call};
 ghost use Rattle.desk.specs.Called.{Called};
+ghost use Rattle.desk.specs.Lawful.{LawfulLine};
 
 use crate::fault::Fault;
 use account::account::Account;
@@ -93,6 +94,7 @@ fn call<T: Tariff>(account: &mut Account<T>, event: Event) -> Result<i64, Fault>
 /// Reads a line and serves its event; a refusal names the layer that gave it.
 pub fn serve<T: Tariff>(account: &mut Account<T>, line: &[u8]) -> Result<i64, Fault>
     ensures after { Called T.Tariff.meaning account.old account.new (line_call (periods_of (state_of account.old)) (event_of line.now)) result }
+    ensures law { LawfulLine T.Tariff.meaning account.old account.new line.now }
 {
     let event = read_event(line)?;
     call(account, event)

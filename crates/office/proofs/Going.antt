@@ -1,34 +1,22 @@
 -- A walk over the lines of a text: what is done, and what is left. Assumes nothing.
 use Rattle.std.proofs.Common.{◌≡◌, ℕ, List, [], ◌∷◌, ◌++◌, ℤ, Ok, Err, Result, sym, refl, ap, ◌∙◌}
 use Rattle.std.proofs.lemmas.List.{append_assoc}
-use Rattle.rules.specs.Subject.{Period, Tariff, Call, Opening}
-use Rattle.rules.specs.Questions.{Books}
-use Rattle.rules.specs.Given.{accepted}
-use Rattle.rules.specs.Law.{billed}
-use Rattle.rules.specs.Machine.{State, view, periods_of, after}
-use Rattle.rules.proofs.Runs.{view_ran, after_ran}
+use Rattle.rules.specs.Subject.{Tariff, Call, Opening}
+use Rattle.rules.specs.Machine.{periods_of, after}
 use Rattle.account.specs.declared.account.Account.{Account}
 use Rattle.account.specs.State.{state_of, opening_of}
 use Rattle.events.specs.Events.{event_of}
 use Rattle.desk.specs.declared.fault.Fault.{Fault}
-use Rattle.desk.specs.Calls.{Outcome, line_call, answered, with_call}
+use Rattle.desk.specs.Calls.{line_call, answered, with_call}
 use Rattle.desk.specs.Called.{outcome_of, Called}
+use Rattle.desk.specs.Lawful.{call_after}
+use Rattle.desk.proofs.Runs.{answered_so, answered_after}
 use Rattle.office.specs.declared.kept.Page.{Page}
 use Rattle.office.specs.declared.page.Full.{Full}
 use Rattle.office.specs.Pages.{Wrote}
 use Rattle.office.specs.Texts.{told}
-use Rattle.office.specs.Statement.{call_after, calls, replies}
+use Rattle.office.specs.Statement.{calls, replies}
 use Rattle.office.proofs.Steps.{◌then◌, wrote_none, stopped, spelled_as}
-
--- the account's periods are those that the accepted calls give
-periods_after : (t : Tariff) (o : Opening) (h : List Call) → periods_of (after t o h) ≡ billed o (accepted o h)
-periods_after t o h = ap (λ (s : State). (view s).periods) (after_ran t o h) ∙ ap (λ (b : Books). b.periods) (view_ran t o (accepted o h))
-
--- the state after a line is that after its call, if it makes one
-answered_after : (t : Tariff) (o : Opening) (h : List Call) (c : Result Call Outcome) → (answered t o (after t o h) c).1 ≡ after t o (with_call h c)
-unfolding after
-answered_after t o h (Ok c) = refl
-answered_after t o h (Err out) = refl
 
 -- a with the page p has become b with the page q, and of all lines these are left
 pub record Going {T : Type 0} (mean : T → Tariff) (a b : Account T) (p q : Page) (all left : List (List ℕ)) : Type 0 where
@@ -56,22 +44,19 @@ module _ {T : Type 0} (mean : T → Tariff) (a : Account T) (p : Page) (all : Li
 
   module _ (b d : Account T) (q r : Page) (l : List ℕ) (rest left : List (List ℕ)) (z : Result ℤ Fault) (g : Going mean a b p q all left) (is : left ≡ l ∷ rest) (s : Called mean b d (line_call (periods_of (state_of b)) (event_of l)) z) where
     -- a line's call is answered as after the calls before it
-    answered_so : answered (mean b.tariff) (opening_of b) (state_of b) (line_call (periods_of (state_of b)) (event_of l)) ≡ answered (mean a.tariff) (opening_of a) (after (mean a.tariff) (opening_of a) g.made) (call_after (opening_of a) g.made l)
-    answered_so =
-        let t = mean a.tariff in
-        let o = opening_of a in
-        let e = event_of l in
-        ap (λ (x : Tariff). answered x (opening_of b) (state_of b) (line_call (periods_of (state_of b)) e)) g.tariff
-        ∙ ap (λ (x : Opening). answered t x (state_of b) (line_call (periods_of (state_of b)) e)) g.opening
-        ∙ ap (λ (x : State). answered t o x (line_call (periods_of x) e)) g.state
-        ∙ ap (λ (ps : List Period). answered t o (after t o g.made) (line_call ps e)) (periods_after t o g.made)
+    answered_here : answered (mean b.tariff) (opening_of b) (state_of b) (line_call (periods_of (state_of b)) (event_of l)) ≡ answered (mean a.tariff) (opening_of a) (after (mean a.tariff) (opening_of a) g.made) (call_after (opening_of a) g.made l)
+    answered_here =
+        let c = line_call (periods_of (state_of b)) (event_of l) in
+        ap (λ (x : Tariff). answered x (opening_of b) (state_of b) c) g.tariff
+        ∙ ap (λ (x : Opening). answered (mean a.tariff) x (state_of b) c) g.opening
+        ∙ answered_so (mean a.tariff) (opening_of a) (state_of b) g.made l g.state
 
     line_left : (g.written ++ told (outcome_of z)) ++ replies (mean a.tariff) (opening_of a) (with_call g.made (call_after (opening_of a) g.made l)) rest ≡ replies (mean a.tariff) (opening_of a) [] all
     line_left =
         let t = mean a.tariff in
         let o = opening_of a in
         append_assoc g.written (told (outcome_of z)) _
-        ∙ ap (λ x. g.written ++ (told x ++ replies t o (with_call g.made (call_after o g.made l)) rest)) (s.answer ∙ ap (λ x. x.0) answered_so)
+        ∙ ap (λ x. g.written ++ (told x ++ replies t o (with_call g.made (call_after o g.made l)) rest)) (s.answer ∙ ap (λ x. x.0) answered_here)
         ∙ ap (λ x. g.written ++ replies t o g.made x) (sym is)
         ∙ g.answers
 
@@ -88,7 +73,7 @@ module _ {T : Type 0} (mean : T → Tariff) (a : Account T) (p : Page) (all : Li
         record {
           made = with_call g.made (call_after o g.made l);
           written = g.written ++ told (outcome_of z);
-          state = s.state ∙ ap (λ x. x.1) answered_so ∙ answered_after t o g.made (call_after o g.made l);
+          state = s.state ∙ ap (λ x. x.1) answered_here ∙ answered_after t o g.made (call_after o g.made l);
           opening = s.opening ∙ g.opening;
           tariff = s.tariff ∙ g.tariff;
           page = g.page then w;

@@ -1,17 +1,12 @@
 -- What the page of a statement shows, by the lines of its text. Assumes nothing.
-use Rattle.std.specs.Prelude.{ℕ, List, [], ◌∷◌, ◌++◌, Result}
+use Rattle.std.specs.Prelude.{ℕ, List, [], ◌∷◌, ◌++◌}
 use Rattle.std.specs.List.{flat_map}
 use Rattle.rules.specs.Subject.{Tariff, Call, Opening}
-use Rattle.rules.specs.Given.{accepted}
-use Rattle.rules.specs.Law.{Shown, billed}
+use Rattle.rules.specs.Law.{Shown}
 use Rattle.rules.specs.Machine.{after, shown}
-use Rattle.events.specs.Events.{event_of}
-use Rattle.desk.specs.Calls.{Outcome, line_call, answered, with_call}
+use Rattle.desk.specs.Calls.{answered, with_call}
+use Rattle.desk.specs.Lawful.{call_after}
 use Rattle.office.specs.Texts.{told, journal_line, sums_line}
-
--- the call that a line makes after these calls: its method is made of the periods that the accepted ones give
-abbrev pub call_after : Opening → List Call → List ℕ → Result Call Outcome
-call_after o h l = line_call (billed o (accepted o h)) (event_of l)
 
 -- the calls that the lines make, newest first, after those made before them
 abbrev pub calls : Opening → List Call → List (List ℕ) → List Call
