@@ -13,7 +13,7 @@ abbrev pub outcome_of : Result ℤ Fault → Outcome
 outcome_of (Ok value) = record { layer = By-account; number = 0; value = value }
 outcome_of (Err f) = record { layer = layer_of f; number = fault_number f; value = pos (fault_value f) }
 
--- b is a after this call, which was answered r, or after none was made; memory past the filled part is as it was
+-- b is a after this call, if one is made, and the line was answered r; memory past the filled part is as it was
 pub record Called {T : Type 0} (mean : T → Tariff) (a b : Account T) (c : Result Call Outcome) (r : Result ℤ Fault) : Type 0 where
   pub answer : outcome_of r ≡ (answered (mean a.tariff) (opening_of a) (state_of a) c).0
   pub state : state_of b ≡ (answered (mean a.tariff) (opening_of a) (state_of a) c).1

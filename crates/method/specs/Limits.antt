@@ -1,4 +1,4 @@
--- What the questions of a making secure. Assumes nothing.
+-- What the questions of a making secure: the proofs of limits that the definitions in Made hold. Assumes nothing.
 use Rattle.std.specs.Prelude.{◌≡◌, ℕ, suc, ◌+◌, ◌-◌, ◌≤◌, Bool, true, false, cond, ◌&&◌, List, [], ◌∷◌, length, ◌==◌, nat_le, refl}
 use Rattle.std.proofs.Common.{arith}
 use Rattle.std.proofs.lemmas.Bool.{and_parts, leb-true, eqb-true}
@@ -7,7 +7,7 @@ use Rattle.rules.specs.Questions.{is_reading, is_term}
 use Rattle.method.specs.Meaning.{units_most}
 use Rattle.method.specs.Three.{is_read_row, all_read, are_three, units_of, days_of, average_of}
 
--- where no question said no, the first said yes; the others come to no
+-- where no question said no, the first said yes, and none of the others said no
 pub said_yes : (n : ℕ) (b : Bool) (others : ℕ) → cond b others (suc n) ≡ 0 → (b ≡ true) × (others ≡ 0)
 said_yes n true others e = (refl, e)
 said_yes n false others e = absurd (omega arith)

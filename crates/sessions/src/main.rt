@@ -1,4 +1,4 @@
-// The stored sessions: the page of each text is made again, and compared with the one that is stored beside it.
+// The stored sessions: the page of each text is made, and compared with the one that is stored beside it.
 #![tactic(auto)]
 
 mod session;
@@ -29,7 +29,7 @@ fn page_of(rt: &HostRuntime, session: &Session) -> anyhow::Result<String> {
     String::from_utf8(page).map_err(|_| anyhow!("its page is no text"))
 }
 
-/// The first line of a page that is not the stored one, beside that.
+/// How a page differs from the stored one: the first line that is another, beside the stored line, or else both lengths.
 fn difference(page: &str, stored: &str) -> anyhow::Error {
     for (line, wanted) in page.split('\n').zip(stored.split('\n')) {
         if line != wanted {
