@@ -1,7 +1,7 @@
 // Lines of text at their edges, and pages of exactly the right length.
 use events::read_event;
-use office::refused::Refused;
-use office::statement::statement;
+use statements::refused::Refused;
+use statements::statement::statement;
 use std::test::*;
 
 /// The number and the value of the reader's answer, as the page prints them.

@@ -1,9 +1,21 @@
-// The office's side of an account: its statement, and the page that it is written on.
+// The office's statement, exported to C.
 #![tactic(auto)]
 
-mod entries;
-mod kept;
-mod page;
-pub mod refused;
-pub mod statement;
-mod writing;
+mod answer;
+
+ghost use Rattle.std.specs.Prelude.{◌≡◌, length};
+ghost use Rattle.tariff.specs.Hotel.{numbered};
+ghost use Rattle.statements.specs.Office.{opened_on, asked, Stated, LawfulPage};
+
+pub use answer::Answer;
+
+/// The statement of a text under the tariff of this number, by which C names it, for an account that opens on this day. The
+/// clauses are the statement's, said again: no contract passes through a call by itself.
+#[unsafe(no_mangle)]
+pub extern "C" fn statement(tariff: u32, opening: u32, text: &[u8], page: &mut [u8]) -> Answer
+    ensures after { Stated (numbered tariff) (opened_on opening) (asked tariff opening text.now (length page.old))
+        text.now page.old page.new result.number result.value }
+    ensures law { result.number ≡ 0 → LawfulPage (numbered tariff) (opened_on opening) text.now page.new }
+{
+    statements::statement::statement(tariff, opening, text, page).into()
+}

@@ -6,7 +6,7 @@ mod session;
 ghost use Rattle.std.specs.Prelude.{◌≡◌, ◌↔◌, IsOk};
 
 use anyhow::anyhow;
-use office::statement::statement;
+use statements::statement::statement;
 use session::{SESSIONS, Session};
 use std::fs;
 use std::process::ExitCode;

@@ -3,7 +3,7 @@
 #![tactic(auto)]
 
 use anyhow::anyhow;
-use office::statement::statement;
+use statements::statement::statement;
 use std::env;
 use std::io::{Read, Write};
 use std::process::ExitCode;

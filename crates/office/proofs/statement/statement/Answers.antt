@@ -1,5 +1,0 @@
-use Rattle.office.proofs.Stated.{lawful_result}
-use Rattle.office.proofs.statement.statement.Goals as goal
-
-pub returns-else-is_err-clause-law : goal.returns-else-is_err-clause-law
-returns-else-is_err-clause-law c = λ accepted. lawful_result _ _ c.statement_numbered-result.ensures accepted

@@ -1,5 +1,0 @@
-pub mod Pages
-pub mod Texts
-pub mod Statement
-pub mod Refusals
-pub mod Office

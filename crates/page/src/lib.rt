@@ -1,0 +1,8 @@
+// A page lent by the caller: what is written on it, piece by piece, and zeros after it.
+#![tactic(auto)]
+
+mod kept;
+mod writes;
+
+pub use kept::Page;
+pub use writes::Full;

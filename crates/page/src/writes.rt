@@ -1,0 +1,77 @@
+// What is written on a page.
+//
+// It is no `fmt::Write`: std says nothing of a writer after an `Err`, so that a page written by `write!` could not
+// promise that 21 is answered only where the result does not fit. The writes are inlined: called, they make a
+// statement of many short lines a sixth slower.
+ghost use Rattle.std.specs.Prelude.{◌≡◌, [], ◌∷◌, length, decimal};
+ghost use Rattle.std.specs.Fmt.{signed_decimal};
+ghost use Rattle.page.specs.Pages.{held, Wrote, padded};
+
+use crate::kept::Page;
+use figures::money::Money;
+use itoa::Buffer;
+
+/// What was to be written does not fit the page. Not the book's `Full`, which rises by `?` nowhere.
+#[derive(Clone, Copy)]
+pub struct Full;
+
+impl<'a> Page<'a> {
+    pub fn new(bytes: &'a mut [u8]) -> Page<'a>
+        ensures lent { result.bytes.ghost_name ≡ bytes.entry.ghost_name }
+        ensures made { (held result ≡ []) × (length result.bytes.now ≡ length bytes.old) }
+    {
+        Page { bytes, at: 0 }
+    }
+
+    #[inline(always)]
+    pub fn push(&mut self, byte: u8) -> Result<(), Full>
+        ensures { Wrote self.old self.new result (byte ∷ []) }
+    {
+        if self.at == self.bytes.len() {
+            return Err(Full);
+        }
+        // the bytes are lent, so the next place is an index, here and in `text`
+        self.bytes[self.at] = byte;
+        self.at += 1;
+        Ok(())
+    }
+
+    #[inline(always)]
+    pub fn text(&mut self, text: &[u8]) -> Result<(), Full>
+        ensures { Wrote self.old self.new result text.now }
+    {
+        if text.len() > self.bytes.len() - self.at {
+            return Err(Full);
+        }
+        let end = self.at + text.len();
+        self.bytes[self.at..end].copy_from_slice(text);
+        self.at = end;
+        Ok(())
+    }
+
+    /// A figure in decimal digits.
+    #[inline(always)]
+    pub fn figure(&mut self, n: u64) -> Result<(), Full>
+        ensures { Wrote self.old self.new result (decimal n) }
+    {
+        self.text(Buffer::new().format(n).as_bytes())
+    }
+
+    /// A signed amount, with a minus where it is below zero. Beside `figure`, since each says its text by a definition of its own.
+    #[inline(always)]
+    pub fn cents(&mut self, amount: Money) -> Result<(), Full>
+        ensures { Wrote self.old self.new result (signed_decimal amount.0) }
+    {
+        self.text(Buffer::new().format(amount.0).as_bytes())
+    }
+
+    /// Ends the page: zeros after what was written. The answer is how many bytes were written.
+    pub fn finish(self) -> usize
+        ensures value { result ≡ length (held self.entry) }
+        ensures after { self.exit.0.now ≡ padded (length self.entry.bytes.now) (held self.entry) }
+    {
+        let Page { bytes, at } = self;
+        bytes[at..].fill(0);
+        at
+    }
+}

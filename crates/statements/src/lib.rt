@@ -1,0 +1,7 @@
+// The statement that an office asks for of an account: the answers to a text of events, the journal and the sums.
+#![tactic(auto)]
+
+mod entries;
+pub mod refused;
+pub mod statement;
+mod writing;
