@@ -1,2 +1,6 @@
 pub mod Steps
 pub mod Begins
+pub mod Digits
+pub mod Joined
+pub mod Spelled
+pub mod Written

@@ -15,9 +15,13 @@ use Rattle.events.specs.Corrections.{finding_in, basis_in}
 pub data Form : Type 0 where
   t_line h_line b_line e_line c_line p_line : Form
 
--- the form that the first field names: it is one letter, T H B E C P
+-- T H B E C P
+abbrev pub forms : List (ℕ × Form)
+forms = (84, t_line) ∷ (72, h_line) ∷ (66, b_line) ∷ (69, e_line) ∷ (67, c_line) ∷ (80, p_line) ∷ []
+
+-- the form that the first field names: it is one letter
 abbrev pub form_of : List ℕ → Option Form
-form_of f = one_of ((84, t_line) ∷ (72, h_line) ∷ (66, b_line) ∷ (69, e_line) ∷ (67, c_line) ∷ (80, p_line) ∷ []) f
+form_of f = one_of forms f
 
 -- how many fields follow the letter
 abbrev pub fields_after : Form → ℕ

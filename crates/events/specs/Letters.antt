@@ -18,20 +18,32 @@ abbrev pub one_of : {X : Type 0} → List (ℕ × X) → List ℕ → Option X
 one_of table f = cond (length f == 1) (named table (slice_index f 0)) None
 
 -- A U O S X
-abbrev pub cause_of : List ℕ → Option Cause
-cause_of f = one_of ((65, Absent) ∷ (85, Under) ∷ (79, Over) ∷ (83, Stopped) ∷ (88, Altered) ∷ []) f
+abbrev pub causes : List (ℕ × Cause)
+causes = (65, Absent) ∷ (85, Under) ∷ (79, Over) ∷ (83, Stopped) ∷ (88, Altered) ∷ []
 
 -- c s
-abbrev pub side_of : List ℕ → Option Side
-side_of f = one_of ((99, Consumer) ∷ (115, Supplier) ∷ []) f
+abbrev pub sides : List (ℕ × Side)
+sides = (99, Consumer) ∷ (115, Supplier) ∷ []
 
 -- y n
-abbrev pub known_of : List ℕ → Option Bool
-known_of f = one_of ((121, true) ∷ (110, false) ∷ []) f
+abbrev pub knowns : List (ℕ × Bool)
+knowns = (121, true) ∷ (110, false) ∷ []
 
 -- M P L D
+abbrev pub methods : List (ℕ × MethodName)
+methods = (77, TestMeter) ∷ (80, PreviousThree) ∷ (76, LaterThree) ∷ (68, ContractDemand) ∷ []
+
+abbrev pub cause_of : List ℕ → Option Cause
+cause_of f = one_of causes f
+
+abbrev pub side_of : List ℕ → Option Side
+side_of f = one_of sides f
+
+abbrev pub known_of : List ℕ → Option Bool
+known_of f = one_of knowns f
+
 abbrev pub method_of : List ℕ → Option MethodName
-method_of f = one_of ((77, TestMeter) ∷ (80, PreviousThree) ∷ (76, LaterThree) ∷ (68, ContractDemand) ∷ []) f
+method_of f = one_of methods f
 
 -- a field that its method does not use holds 0
 abbrev pub unused_of : List ℕ → Option Unused

@@ -7,3 +7,5 @@ pub mod Corrections
 pub mod Events
 pub mod LinesLeft
 pub mod FieldsLeft
+pub mod Written
+pub mod Writing

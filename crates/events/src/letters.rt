@@ -1,6 +1,7 @@
 // Fields that hold one letter, or nothing but 0.
 ghost use Rattle.std.specs.Prelude.{◌≡◌};
 ghost use Rattle.events.specs.Letters.{cause_of, side_of, known_of, method_of, unused_of};
+ghost use Rattle.events.specs.Written.{cause_letter, side_letter, known_letter};
 
 use crate::field::FromField;
 use method::finding::{Cause, Side};
@@ -81,4 +82,34 @@ impl FromField for Unused {
             _ => None,
         }
     }
+}
+
+/// The letter of a cause.
+pub(crate) fn cause_letter(cause: Cause) -> u8
+    ensures { result ≡ cause_letter cause }
+{
+    match cause {
+        Cause::Absent => b'A',
+        Cause::Under => b'U',
+        Cause::Over => b'O',
+        Cause::Stopped => b'S',
+        Cause::Altered => b'X',
+    }
+}
+
+/// The letter of who found it.
+pub(crate) fn side_letter(side: Side) -> u8
+    ensures { result ≡ side_letter side }
+{
+    match side {
+        Side::Consumer => b'c',
+        Side::Supplier => b's',
+    }
+}
+
+/// The letter of whether the dates are known.
+pub(crate) fn known_letter(known: bool) -> u8
+    ensures { result ≡ known_letter known }
+{
+    if known { b'y' } else { b'n' }
 }

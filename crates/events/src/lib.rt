@@ -1,6 +1,7 @@
 // The events of an account, read from a text: lines, their fields, and the figures and letters that stand in them.
 #![tactic(auto)]
 
+mod cell;
 pub mod event;
 pub mod fault;
 mod field;
@@ -9,6 +10,9 @@ mod figure;
 mod letters;
 pub mod lines;
 mod read;
+pub mod unwritten;
 mod walk;
+mod write;
 
 pub use read::read_event;
+pub use write::write_event;

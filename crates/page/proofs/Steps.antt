@@ -10,7 +10,7 @@ use Rattle.page.specs.declared.writes.Full.{Full}
 use Rattle.page.specs.Pages.{held, put, kept, Wrote, fitted}
 
 -- two writes are one
-put_put : (n : ℕ) (o : Option (List ℕ)) (t u : List ℕ) → put n (put n o t) u ≡ put n o (t ++ u)
+pub put_put : (n : ℕ) (o : Option (List ℕ)) (t u : List ℕ) → put n (put n o t) u ≡ put n o (t ++ u)
 put_put n None t u = refl
 put_put n (Some s) t u =
     ⊎_elim

@@ -1,0 +1,171 @@
+// Events written as lines.
+ghost use Rattle.std.specs.Prelude.{◌≡◌, ◌∷◌, [], map, length, OnOk};
+ghost use Rattle.std.specs.List.{list_all};
+ghost use Rattle.page.specs.Pages.{Wrote, fitted, padded};
+ghost use Rattle.page.specs.Answered.{cleared};
+ghost use Rattle.events.specs.Written.{is_short, finding_fields, basis_fields, fields_of};
+ghost use Rattle.events.specs.Writing.{text_of, line_end, Written};
+
+use crate::cell::{Cell, UNUSED};
+use crate::event::{Basis, Event};
+use crate::letters::{cause_letter, known_letter, side_letter};
+use crate::unwritten::Unwritten;
+use method::finding::Finding;
+use page::{Full, Page};
+
+/// A line of this letter and these fields, with its end.
+fn put_line(letter: u8, fields: &[Cell], page: &mut Page) -> Result<(), Full>
+    ensures { Wrote page.old page.new result (line_end ((letter ∷ []) ∷ map text_of fields.now)) }
+{
+    page.push(letter)?;
+    for field in fields {
+        field.write(page)?;
+    }
+    page.push(b'\n')
+}
+
+/// How many bytes such a line has, where it fits the page.
+fn fill_page(letter: u8, fields: &[Cell], page: &mut [u8]) -> Result<usize, Full>
+    ensures value { result ≡ fitted (length page.old) (line_end ((letter ∷ []) ∷ map text_of fields.now)) }
+    ensures after { OnOk result (page.new ≡ padded (length page.old) (line_end ((letter ∷ []) ∷ map text_of fields.now))) }
+{
+    let mut page = Page::new(page);
+    put_line(letter, fields, &mut page)?;
+    Ok(page.finish())
+}
+
+/// Whether every field is short enough.
+fn are_short(fields: &[Cell]) -> bool
+    ensures { result ≡ list_all is_short (map text_of fields.now) }
+{
+    fields.iter().all(Cell::is_short)
+}
+
+/// How many bytes such a line has, where it can be written; a refused one leaves anything on the page.
+fn write_fields(letter: u8, fields: &[Cell], page: &mut [u8]) -> Result<usize, Unwritten>
+    ensures { Written ((letter ∷ []) ∷ map text_of fields.now) page.old (cleared result page.new) result }
+{
+    if !are_short(fields) {
+        return Err(Unwritten::Event);
+    }
+    Ok(fill_page(letter, fields, page)?)
+}
+
+/// What a correction rests on.
+fn finding_fields(finding: Finding) -> [Cell; 6]
+    ensures { map text_of result ≡ finding_fields finding }
+{
+    [
+        Cell::Letter(cause_letter(finding.cause)),
+        Cell::Letter(side_letter(finding.side)),
+        Cell::figure(finding.notice),
+        Cell::Letter(known_letter(finding.ascertained)),
+        Cell::figure(finding.span.first),
+        Cell::figure(finding.span.last),
+    ]
+}
+
+/// A method's letter, and its five fields.
+fn basis_fields(basis: Basis) -> [Cell; 6]
+    ensures { map text_of result ≡ basis_fields basis }
+{
+    match basis {
+        Basis::TestMeter { shown, tested } => [
+            Cell::Letter(b'M'),
+            Cell::figure(shown),
+            Cell::figure(tested),
+            UNUSED,
+            UNUSED,
+            UNUSED,
+        ],
+        Basis::PreviousThree { from } => {
+            [Cell::Letter(b'P'), Cell::figure(from), UNUSED, UNUSED, UNUSED, UNUSED]
+        }
+        Basis::LaterThree { from } => {
+            [Cell::Letter(b'L'), Cell::figure(from), UNUSED, UNUSED, UNUSED, UNUSED]
+        }
+        Basis::ContractDemand {
+            kva,
+            utilization,
+            power,
+            load,
+            peak,
+        } => [
+            Cell::Letter(b'D'),
+            Cell::figure(kva),
+            Cell::figure(utilization),
+            Cell::figure(power),
+            Cell::figure(load),
+            Cell::figure(peak),
+        ],
+    }
+}
+
+/// How many bytes an event's line has; a refused one leaves anything on the page.
+fn write_line(event: Event, page: &mut [u8]) -> Result<usize, Unwritten>
+    ensures { Written (fields_of event) page.old (cleared result page.new) result }
+{
+    match event {
+        Event::Take { moment, span } => {
+            write_fields(b'T', &[Cell::figure(moment), Cell::figure(span)], page)
+        }
+        Event::HandBack { hold } => write_fields(b'H', &[Cell::figure(hold)], page),
+        Event::Bill {
+            hold,
+            last,
+            reading,
+        } => {
+            let fields = [
+                Cell::figure(hold),
+                Cell::figure(last),
+                Cell::figure(reading.day),
+                Cell::figure(reading.peak),
+                Cell::figure(reading.demand),
+            ];
+            write_fields(b'B', &fields, page)
+        }
+        Event::Estimate {
+            hold,
+            last,
+            figure,
+            peak,
+            demand,
+        } => {
+            let fields = [
+                Cell::figure(hold),
+                Cell::figure(last),
+                Cell::figure(figure),
+                Cell::figure(peak),
+                Cell::figure(demand),
+            ];
+            write_fields(b'E', &fields, page)
+        }
+        Event::Correct {
+            hold,
+            finding,
+            basis,
+        } => {
+            let [cause, side, notice, known, first, last] = finding_fields(finding);
+            let [method, a, b, c, d, e] = basis_fields(basis);
+            let fields = [
+                Cell::figure(hold),
+                cause, side, notice, known, first, last, method, a, b, c, d, e,
+            ];
+            write_fields(b'C', &fields, page)
+        }
+        Event::Pay { hold, cents } => {
+            write_fields(b'P', &[Cell::figure(hold), Cell::figure(cents)], page)
+        }
+    }
+}
+
+/// Writes an event as a line with its line end: how many bytes it has. A refused event leaves zeros.
+pub fn write_event(event: Event, page: &mut [u8]) -> Result<usize, Unwritten>
+    ensures after { Written (fields_of event) page.old page.new result }
+{
+    let result = write_line(event, page);
+    if result.is_err() {
+        page.fill(0);
+    }
+    result
+}
