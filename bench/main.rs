@@ -309,7 +309,8 @@ fn only(side: &str, kind: &str, calls: &str) {
     let kinds = texts::kinds(&mut Dice(SEED));
     let Kind { name, tariff, text } = &kinds[kind.parse::<usize>().unwrap()];
     let mut page = vec![0; WIDEST_PAGE];
-    let right = plainly(*tariff, 0, text, &mut page).value as usize;
+    // Not by `plainly`, so that a profile of that has the calls asked for alone.
+    let right = plain::statement(*tariff, 0, text, &mut page).value as usize;
     timed(
         call,
         *tariff,

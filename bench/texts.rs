@@ -522,8 +522,14 @@ pub fn kinds(dice: &mut Dice) -> Vec<Kind> {
         text.truncate(LONGEST);
         text
     };
-    let mut damaged = session.clone();
-    damage(dice, &mut damaged, 3_000);
+    let mut damaged = Vec::new();
+    for line in session.split(|&byte| byte == b'\n') {
+        let mut line = line.to_vec();
+        let places = dice.below(3);
+        damage(dice, &mut line, places);
+        damaged.extend(line);
+        damaged.push(b'\n');
+    }
     damaged.truncate(LONGEST);
     let kind = |name, tariff, text| Kind { name, tariff, text };
     vec![
