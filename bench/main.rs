@@ -24,7 +24,7 @@ mod archive {
     }
 
     extern "C" {
-        #[link_name = "statement"]
+        #[link_name = "maqdylez_statement"]
         pub fn statement(
             tariff: u32,
             opening: u32,
