@@ -39,7 +39,7 @@ fn correction(basis: Basis) -> Event {
 }
 
 #[test]
-fn every_form_is_written(rt: HostRuntime) {
+fn takes_hand_backs_and_bills_are_written(rt: HostRuntime) {
     assert!(rt;
         writes(
             Event::Take {
@@ -65,6 +65,10 @@ fn every_form_is_written(rt: HostRuntime) {
             b"B,1,30,600,7,8\n"
         )
     );
+}
+
+#[test]
+fn an_estimate_and_a_payment_are_written(rt: HostRuntime) {
     let estimate = Event::Estimate {
         hold: 1,
         last: 61,

@@ -1,5 +1,5 @@
 // The fields that are written for an event, after the letter of its line.
-ghost use Rattle.std.specs.Prelude.{◌≡◌, ◌∷◌, [], map};
+ghost use Rattle.std.specs.Prelude.{◌≡◌, ◌∷◌, [], map, decimal, replicate, codes};
 ghost use Rattle.events.specs.declared.event.Event.TheVariants.{Bill, Estimate};
 ghost use Rattle.events.specs.Written.{finding_fields, basis_fields, fields_of};
 ghost use Rattle.events.specs.Writing.{text_of};
@@ -54,39 +54,31 @@ pub(crate) fn finding_fields(finding: Finding) -> [Cell; 6]
     ]
 }
 
+/// The letter and the five fields of a method by three rows.
+fn three_rows(letter: u8, from: u64) -> [Cell; 6]
+    ensures { map text_of result ≡ (letter ∷ []) ∷ decimal from ∷ replicate 4 (codes "0") }
+{
+    [
+        Cell::Letter(letter),
+        Cell::figure(from),
+        UNUSED,
+        UNUSED,
+        UNUSED,
+        UNUSED,
+    ]
+}
+
 /// A method's letter, and its five fields.
 pub(crate) fn basis_fields(basis: Basis) -> [Cell; 6]
     ensures { map text_of result ≡ basis_fields basis }
 {
     match basis {
-        Basis::TestMeter { shown, tested } => [
-            Cell::Letter(b'M'),
-            Cell::figure(shown),
-            Cell::figure(tested),
-            UNUSED,
-            UNUSED,
-            UNUSED,
-        ],
-        Basis::PreviousThree { from } => {
-            [
-                Cell::Letter(b'P'),
-                Cell::figure(from),
-                UNUSED,
-                UNUSED,
-                UNUSED,
-                UNUSED,
-            ]
+        Basis::TestMeter { shown, tested } => {
+            let (shown, tested) = (Cell::figure(shown), Cell::figure(tested));
+            [Cell::Letter(b'M'), shown, tested, UNUSED, UNUSED, UNUSED]
         }
-        Basis::LaterThree { from } => {
-            [
-                Cell::Letter(b'L'),
-                Cell::figure(from),
-                UNUSED,
-                UNUSED,
-                UNUSED,
-                UNUSED,
-            ]
-        }
+        Basis::PreviousThree { from } => three_rows(b'P', from),
+        Basis::LaterThree { from } => three_rows(b'L', from),
         Basis::ContractDemand {
             kva,
             utilization,
