@@ -1,10 +1,10 @@
 // The walk over the fields of a line.
-ghost use Rattle.std.specs.Prelude.{◌≡◌, ◌≤◌, length, if◌then◌else◌, Ok, Err, nat_eq};
+ghost use Rattle.std.specs.Prelude.{◌≡◌, ◌+◌, ◌≤◌, length, if◌then◌else◌, Ok, Err, nat_eq, IfOk};
 ghost use Rattle.std.specs.Iterator.{YieldsFirstBy, item_count};
 ghost use Rattle.events.specs.declared.fault.ReaderFault.TheVariants.{Shape};
 ghost use Rattle.events.specs.Lines.{fields, placed};
 ghost use Rattle.events.specs.Reads.{lawful, field, unused};
-ghost use Rattle.events.specs.FieldsLeft.{field_of, fields_left, with_left};
+ghost use Rattle.events.specs.FieldsLeft.{field_of, fields_left, with_left, Handed};
 
 use crate::fault::ReaderFault;
 use crate::field::FromField;
@@ -54,9 +54,23 @@ impl<'a> Fields<'a> {
         Ok(())
     }
 
-    /// What the next field holds; none is left only where more are read than were counted.
+    /// What was read of the fields of `rest`, if those are as many as the form asks. That question comes first, but they need
+    /// counting only where a field was not read or some are left.
+    pub(crate) fn counted<T: Copy>(self, rest: &[u8], asked: usize, read: Result<T, ReaderFault>) -> Result<T, ReaderFault>
+        requires short { length rest.now ≤ 140 }
+        requires handed { IfOk read (λ x. length (placed 3 (fields rest.now)) ≡ length (fields_left self) + asked) }
+        ensures value { result ≡ (if nat_eq (length (placed 3 (fields rest.now))) asked then read else Err Shape) }
+    {
+        if read.is_err() || self.rest.is_some() {
+            Fields::new(rest).require_count(asked)?;
+        }
+        read
+    }
+
+    /// What the next field holds, if one is left.
     pub(crate) fn parse<T: FromField>(&mut self) -> Result<T, ReaderFault>
         ensures value { field T.FromField.held (fields_left self.old) ≡ with_left result self.new }
+        ensures left { Handed 1 result self.old self.new }
     {
         self.next().ok_or(ReaderFault::Shape)?.parse()
     }
