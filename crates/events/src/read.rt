@@ -14,6 +14,7 @@ use figures::reported::{Cents, Kva, Kwh, Reading};
 use method::finding::{Finding, Span};
 
 /// When, and for how long.
+#[inline(always)]
 fn take_parts(fields: &mut Fields<'_>) -> Result<(u64, u64), ReaderFault>
     ensures value { event t_line (fields_left fields.old) ≡ made (λ p. Take p.0 p.1) result }
     ensures left { Handed 2 result fields.old fields.new }
@@ -23,6 +24,7 @@ fn take_parts(fields: &mut Fields<'_>) -> Result<(u64, u64), ReaderFault>
     Ok((moment, span))
 }
 
+#[inline(always)]
 fn read_take(rest: &[u8]) -> Result<Event, ReaderFault>
     requires { length rest.now ≤ 140 }
     ensures value { result ≡ event_in t_line (placed 3 (fields_of rest.now)) }
@@ -34,6 +36,7 @@ fn read_take(rest: &[u8]) -> Result<Event, ReaderFault>
 }
 
 /// The hold.
+#[inline(always)]
 fn hand_back_parts(fields: &mut Fields<'_>) -> Result<u64, ReaderFault>
     ensures value { event h_line (fields_left fields.old) ≡ made (λ p. HandBack p) result }
     ensures left { Handed 1 result fields.old fields.new }
@@ -41,6 +44,7 @@ fn hand_back_parts(fields: &mut Fields<'_>) -> Result<u64, ReaderFault>
     fields.parse()
 }
 
+#[inline(always)]
 fn read_hand_back(rest: &[u8]) -> Result<Event, ReaderFault>
     requires { length rest.now ≤ 140 }
     ensures value { result ≡ event_in h_line (placed 3 (fields_of rest.now)) }
@@ -52,6 +56,7 @@ fn read_hand_back(rest: &[u8]) -> Result<Event, ReaderFault>
 }
 
 /// The hold, the last day and the reading.
+#[inline(always)]
 fn bill_parts(fields: &mut Fields<'_>) -> Result<(u64, u64, Reading), ReaderFault>
     ensures value { event b_line (fields_left fields.old) ≡ made (λ p. Bill p.0 p.1 p.2) result }
     ensures left { Handed 5 result fields.old fields.new }
@@ -65,6 +70,7 @@ fn bill_parts(fields: &mut Fields<'_>) -> Result<(u64, u64, Reading), ReaderFaul
     Ok((hold, last, reading))
 }
 
+#[inline(always)]
 fn read_bill(rest: &[u8]) -> Result<Event, ReaderFault>
     requires { length rest.now ≤ 140 }
     ensures value { result ≡ event_in b_line (placed 3 (fields_of rest.now)) }
@@ -80,6 +86,7 @@ fn read_bill(rest: &[u8]) -> Result<Event, ReaderFault>
 }
 
 /// The hold, the last day and the category.
+#[inline(always)]
 fn estimate_parts(fields: &mut Fields<'_>) -> Result<(u64, u64, Kwh, u64, Kva), ReaderFault>
     ensures value { event e_line (fields_left fields.old) ≡ made (λ p. Estimate p.0 p.1 p.2 p.3 p.4) result }
     ensures left { Handed 5 result fields.old fields.new }
@@ -92,6 +99,7 @@ fn estimate_parts(fields: &mut Fields<'_>) -> Result<(u64, u64, Kwh, u64, Kva), 
     Ok((hold, last, figure, peak, demand))
 }
 
+#[inline(always)]
 fn read_estimate(rest: &[u8]) -> Result<Event, ReaderFault>
     requires { length rest.now ≤ 140 }
     ensures value { result ≡ event_in e_line (placed 3 (fields_of rest.now)) }
@@ -108,6 +116,7 @@ fn read_estimate(rest: &[u8]) -> Result<Event, ReaderFault>
     })
 }
 
+#[inline(always)]
 fn read_finding(fields: &mut Fields<'_>) -> Result<Finding, ReaderFault>
     ensures value { finding_in (fields_left fields.old) ≡ with_left result fields.new }
 {
@@ -127,6 +136,7 @@ fn read_finding(fields: &mut Fields<'_>) -> Result<Finding, ReaderFault>
     })
 }
 
+#[inline(always)]
 fn read_basis(fields: &mut Fields<'_>) -> Result<Basis, ReaderFault>
     ensures value { basis_in (fields_left fields.old) ≡ with_left result fields.new }
 {
@@ -151,14 +161,25 @@ fn read_basis(fields: &mut Fields<'_>) -> Result<Basis, ReaderFault>
     })
 }
 
-fn read_correct(mut fields: Fields<'_>) -> Result<Event, ReaderFault>
-    ensures value { result ≡ event_in c_line (fields_left fields.entry) }
+/// The hold, the finding and the method.
+#[inline(always)]
+fn correct_parts(mut fields: Fields<'_>) -> Result<(u64, Finding, Basis), ReaderFault>
+    ensures value { event_in c_line (fields_left fields.entry) ≡ made (λ p. Correct p.0 p.1 p.2) result }
 {
     fields.require_count(13)?;
     let hold = fields.parse()?;
     let finding = read_finding(&mut fields)?;
     let basis = read_basis(&mut fields)?;
     fields.unused()?;
+    Ok((hold, finding, basis))
+}
+
+#[inline(always)]
+fn read_correct(rest: &[u8]) -> Result<Event, ReaderFault>
+    requires { length rest.now ≤ 140 }
+    ensures value { result ≡ event_in c_line (placed 3 (fields_of rest.now)) }
+{
+    let (hold, finding, basis) = correct_parts(Fields::new(rest))?;
     Ok(Event::Correct {
         hold,
         finding,
@@ -167,6 +188,7 @@ fn read_correct(mut fields: Fields<'_>) -> Result<Event, ReaderFault>
 }
 
 /// The hold and the cents.
+#[inline(always)]
 fn pay_parts(fields: &mut Fields<'_>) -> Result<(u64, Cents), ReaderFault>
     ensures value { event p_line (fields_left fields.old) ≡ made (λ p. Pay p.0 p.1) result }
     ensures left { Handed 2 result fields.old fields.new }
@@ -176,6 +198,7 @@ fn pay_parts(fields: &mut Fields<'_>) -> Result<(u64, Cents), ReaderFault>
     Ok((hold, cents))
 }
 
+#[inline(always)]
 fn read_pay(rest: &[u8]) -> Result<Event, ReaderFault>
     requires { length rest.now ≤ 140 }
     ensures value { result ≡ event_in p_line (placed 3 (fields_of rest.now)) }
@@ -187,6 +210,7 @@ fn read_pay(rest: &[u8]) -> Result<Event, ReaderFault>
 }
 
 /// The event that a line carries: its first two bytes choose the form, and the rest is its fields.
+#[inline(always)]
 pub fn read_event(line: &[u8]) -> Result<Event, ReaderFault>
     ensures value { result ≡ event_of line.now }
 {
@@ -198,7 +222,7 @@ pub fn read_event(line: &[u8]) -> Result<Event, ReaderFault>
         [b'H', b',', rest @ ..] => read_hand_back(rest),
         [b'B', b',', rest @ ..] => read_bill(rest),
         [b'E', b',', rest @ ..] => read_estimate(rest),
-        [b'C', b',', rest @ ..] => read_correct(Fields::new(rest)),
+        [b'C', b',', rest @ ..] => read_correct(rest),
         [b'P', b',', rest @ ..] => read_pay(rest),
         _ => Err(ReaderFault::Shape),
     }

@@ -45,6 +45,7 @@ impl<'a> Fields<'a> {
     }
 
     /// The form asks for so many fields.
+    #[inline(never)]
     pub(crate) fn require_count(&self, asked: usize) -> Result<(), ReaderFault>
         ensures value { result ≡ (if nat_eq (length (fields_left self.now)) asked then Ok tt else Err Shape) }
     {
@@ -56,6 +57,7 @@ impl<'a> Fields<'a> {
 
     /// What was read of the fields of `rest`, if those are as many as the form asks. That question comes first, but they need
     /// counting only where a field was not read or some are left.
+    #[inline(always)]
     pub(crate) fn counted<T: Copy>(self, rest: &[u8], asked: usize, read: Result<T, ReaderFault>) -> Result<T, ReaderFault>
         requires short { length rest.now ≤ 140 }
         requires handed { IfOk read (λ x. length (placed 3 (fields rest.now)) ≡ length (fields_left self) + asked) }
@@ -68,6 +70,7 @@ impl<'a> Fields<'a> {
     }
 
     /// What the next field holds, if one is left.
+    #[inline(always)]
     pub(crate) fn parse<T: FromField>(&mut self) -> Result<T, ReaderFault>
         ensures value { field T.FromField.held (fields_left self.old) ≡ with_left result self.new }
         ensures left { Handed 1 result self.old self.new }
