@@ -116,7 +116,6 @@ fn read_estimate(rest: &[u8]) -> Result<Event, ReaderFault>
     })
 }
 
-#[inline(always)]
 fn read_finding(fields: &mut Fields<'_>) -> Result<Finding, ReaderFault>
     ensures value { finding_in (fields_left fields.old) ≡ with_left result fields.new }
 {
@@ -136,7 +135,6 @@ fn read_finding(fields: &mut Fields<'_>) -> Result<Finding, ReaderFault>
     })
 }
 
-#[inline(always)]
 fn read_basis(fields: &mut Fields<'_>) -> Result<Basis, ReaderFault>
     ensures value { basis_in (fields_left fields.old) ≡ with_left result fields.new }
 {
@@ -162,7 +160,6 @@ fn read_basis(fields: &mut Fields<'_>) -> Result<Basis, ReaderFault>
 }
 
 /// The hold, the finding and the method.
-#[inline(always)]
 fn correct_parts(mut fields: Fields<'_>) -> Result<(u64, Finding, Basis), ReaderFault>
     ensures value { event_in c_line (fields_left fields.entry) ≡ made (λ p. Correct p.0 p.1 p.2) result }
 {

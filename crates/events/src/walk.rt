@@ -14,6 +14,7 @@ use crate::lines::split_at_first;
 
 impl<'a> Field<'a> {
     /// What the field holds.
+    #[inline(always)]
     fn parse<T: FromField>(self) -> Result<T, ReaderFault>
         ensures value { result ≡ lawful T.FromField.held (field_of self.entry) }
     {
@@ -96,6 +97,7 @@ impl<'a> Iterator for Fields<'a> {
 
     ghost remaining = { item_count fields_left };
 
+    #[inline(always)]
     fn next(&mut self) -> Option<Field<'a>> {
         let (bytes, rest) = split_at_first(self.rest?, b',');
         let field = Field {
