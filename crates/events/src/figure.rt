@@ -8,6 +8,7 @@ use figures::reported::{Cents, Kva, Kwh};
 impl FromField for u64 {
     ghost held = { figure_of };
 
+    #[inline(always)]
     fn from_field(field: &[u8]) -> Option<u64> {
         if field.len() > 13 || matches!(field, [] | [b'0', _, ..]) {
             return None;
@@ -26,6 +27,7 @@ impl FromField for u64 {
 impl FromField for Kwh {
     ghost held = { kwh_of };
 
+    #[inline(always)]
     fn from_field(field: &[u8]) -> Option<Kwh> {
         Some(Kwh(u64::from_field(field)?))
     }
@@ -34,6 +36,7 @@ impl FromField for Kwh {
 impl FromField for Kva {
     ghost held = { kva_of };
 
+    #[inline(always)]
     fn from_field(field: &[u8]) -> Option<Kva> {
         Some(Kva(u64::from_field(field)?))
     }
@@ -42,6 +45,7 @@ impl FromField for Kva {
 impl FromField for Cents {
     ghost held = { cents_of };
 
+    #[inline(always)]
     fn from_field(field: &[u8]) -> Option<Cents> {
         Some(Cents(u64::from_field(field)?))
     }
