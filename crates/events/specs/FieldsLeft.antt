@@ -2,14 +2,9 @@
 use Rattle.std.specs.Prelude.{◌≡◌, ℕ, ◌+◌, List, [], length, Some, None, Ok, Err, IfOk, Option, Result}
 use Rattle.std.specs.Borrow.{Bor}
 use Rattle.events.specs.declared.fields.Fields.{Fields}
-use Rattle.events.specs.declared.fields.Field.{Field}
 use Rattle.events.specs.declared.event.Event.{Event}
 use Rattle.events.specs.declared.fault.ReaderFault.{ReaderFault}
 use Rattle.events.specs.Lines.{fields, placed}
-
--- a field, as its column and its bytes
-abbrev pub field_of : Field → ℕ × List ℕ
-field_of f = (f.column, f.bytes.now)
 
 -- the fields of what is left of a line, which begins at the column, if anything is
 abbrev pub fields_from : (column : ℕ) → Option (Bor (List ℕ)) → List (ℕ × List ℕ)

@@ -1,16 +1,14 @@
 // The walk over the fields of a line.
 ghost use Rattle.std.specs.Prelude.{◌≡◌, ◌+◌, ◌≤◌, ◌==◌, length, count_by, if◌then◌else◌, Ok, Err, nat_eq, IfOk};
-ghost use Rattle.std.specs.Iterator.{YieldsFirstBy, item_count};
 ghost use Rattle.events.specs.declared.fault.ReaderFault.TheVariants.{Shape};
 ghost use Rattle.events.specs.Lines.{fields, placed};
-ghost use Rattle.events.specs.Reads.{lawful, field, unused};
-ghost use Rattle.events.specs.FieldsLeft.{field_of, fields_left, with_left, Handed};
+ghost use Rattle.events.specs.Reads.{field, unused};
+ghost use Rattle.events.specs.FieldsLeft.{fields_left, with_left, Handed};
 
 use crate::fault::ReaderFault;
 use crate::field::FromField;
-use crate::fields::{Field, Fields};
+use crate::fields::Fields;
 use crate::letters::Unused;
-use crate::lines::split_at_first;
 
 /// How many commas stand in it: a plain loop, which the compiler takes many bytes at a time.
 fn commas(rest: &[u8]) -> usize
@@ -23,16 +21,6 @@ fn commas(rest: &[u8]) -> usize
         }
     }
     count
-}
-
-impl<'a> Field<'a> {
-    /// What the field holds.
-    #[inline(always)]
-    fn parse<T: FromField>(self) -> Result<T, ReaderFault>
-        ensures value { result ≡ lawful T.FromField.held (field_of self.entry) }
-    {
-        T::from_field(self.bytes).ok_or(ReaderFault::Field(self.column))
-    }
 }
 
 impl<'a> Fields<'a> {
@@ -89,36 +77,20 @@ impl<'a> Fields<'a> {
         ensures value { field T.FromField.held (fields_left self.old) ≡ with_left result self.new }
         ensures left { Handed 1 result self.old self.new }
     {
-        self.next().ok_or(ReaderFault::Shape)?.parse()
+        let rest = self.rest.ok_or(ReaderFault::Shape)?;
+        let (value, length) = T::from_field(rest).ok_or(ReaderFault::Field(self.column))?;
+        self.rest = rest.get(length + 1..);
+        self.column += length as u8 + 1;
+        Ok(value)
     }
 
     /// The fields that are left hold 0.
-    pub(crate) fn unused(self) -> Result<(), ReaderFault>
+    pub(crate) fn unused(mut self) -> Result<(), ReaderFault>
         ensures value { result ≡ unused (fields_left self.entry) }
     {
-        for field in self {
-            let Unused = field.parse()?;
+        while self.rest.is_some() {
+            let Unused = self.parse()?;
         }
         Ok(())
-    }
-}
-
-impl<'a> Iterator for Fields<'a> {
-    type Item = Field<'a>;
-
-    ghost next_gives = { YieldsFirstBy field_of fields_left };
-
-    ghost remaining = { item_count fields_left };
-
-    #[inline(always)]
-    fn next(&mut self) -> Option<Field<'a>> {
-        let (bytes, rest) = split_at_first(self.rest?, b',');
-        let field = Field {
-            bytes,
-            column: self.column,
-        };
-        self.rest = rest;
-        self.column += bytes.len() as u8 + 1;
-        Some(field)
     }
 }
