@@ -1,5 +1,5 @@
 -- The first field of what is left of a line, byte by byte.
-use Rattle.std.proofs.Common.{◌&&◌, nat_le, nat_lt, ◌≡◌, ℕ, suc, ◌+◌, ◌-◌, ◌<◌, ◌≤◌, Bool, true, false, cond, eqb, not, List, [], ◌∷◌, length, take, drop, get_or, Some, None, Option, Bor, MatchOption, IsSome, slice_range, refl, sym, ap, ◌∙◌, add-one, one-add, arith, rules}
+use Rattle.std.proofs.Common.{◌&&◌, nat_le, nat_lt, ◌≡◌, ℕ, suc, ◌+◌, ◌-◌, ◌<◌, ◌≤◌, Bool, true, false, cond, eqb, not, List, [], ◌∷◌, length, take, drop, get_or, Some, None, Option, Bor, MatchOption, IsSome, refl, sym, ap, ◌∙◌, add-one, one-add, arith, rules}
 use Rattle.std.specs.List.{before_first, after_first, position_or_len, prefix_len}
 use Rattle.std.specs.Char.{is_ascii_digit}
 use Rattle.std.specs.Str.{all_ascii_digits}
@@ -17,14 +17,6 @@ more_of c cs false is = simp (is, one-add) refl
 -- a byte that is no comma belongs to the field
 pub first_more : (xs : List ℕ) (i : ℕ) → i < length xs → eqb (get_or xs i 0) 44 ≡ false → first_field (drop i xs) ≡ get_or xs i 0 ∷ first_field (drop (i + 1) xs)
 first_more xs i inside is = rw (drop-cons xs i 0 inside) (more_of (get_or xs i 0) (drop (suc i) xs) false is ∙ simp add-one refl)
-
--- a comma ends it
-pub first_ended : (xs : List ℕ) (i : ℕ) → i < length xs → eqb (get_or xs i 0) 44 ≡ true → first_field (drop i xs) ≡ []
-first_ended xs i inside is = rw (drop-cons xs i 0 inside) (more_of (get_or xs i 0) (drop (suc i) xs) true is)
-
--- and so does the line's end
-pub first_at_end : (xs : List ℕ) (i : ℕ) → length xs ≤ i → first_field (drop i xs) ≡ []
-first_at_end xs i past = rw (drop_all i xs past) refl
 
 second_no : (a b c : Bool) → b ≡ false → ((a && b) && c) ≡ false
 second_no true false c is = refl

@@ -90,30 +90,31 @@ pub field_next : {A : Type 0} (held : List ℕ → Option A) (column : ℕ) (lef
 field_next {A = A} held column left line x n rest some has h =
     held_so (held (first_field line.now)) refl has
   where
-  reads : (column : ℕ) (f : List ℕ) (fs : List (ℕ × List ℕ)) (o : Option A) → held f ≡ o → field held ((column, f) ∷ fs) ≡ elim (ok_or o (Field column)) [ Ok z ↦ Ok (z, fs) | Err e ↦ Err e ]
-  reads column f fs o is = ap (λ (q : Option A). elim (ok_or q (Field column)) as (λ r. Result (A × List (ℕ × List ℕ)) ReaderFault) [ Ok z ↦ Ok (z, fs) | Err e ↦ Err e ]) is
-  held_so : (o : Option A) → held (first_field line.now) ≡ o → option_map {U = A × ℕ} (λ y. (y, length (first_field line.now))) o ≡ Some (x, n) → (field held (fields_from column left) ≡ Ok (x, fields_from (column + (n + 1)) rest)) × (length (fields_from column left) ≡ length (fields_from (column + (n + 1)) rest) + 1)
-  held_so None is has = cc
-  held_so (Some y) is has =
-    let same : ◌≡◌ {A = A × ℕ} (y, length (first_field line.now)) (x, n) = cc in
-    let same_n : length (first_field line.now) ≡ n = ap (λ (q : A × ℕ). q.1) same in
-    let behind : Behind 44 line.now rest = behind_first line.now rest (rw same_n h) in
-    let steps : fields_from column left ≡ (column, first_field line.now) ∷ fields_from (column + (n + 1)) rest =
-    rw some (fields_first column line.now (first_field line.now) rest refl behind ∙ ap (λ m. (column, first_field line.now) ∷ fields_from (column + (m + 1)) rest) same_n) in
-    (rw steps (reads column (first_field line.now) (fields_from (column + (n + 1)) rest) (Some y) is ∙ ap (λ (q : A × ℕ). Ok (q.0, fields_from (column + (n + 1)) rest)) same), ap length steps ∙ sym (add-one _))
+    reads : (column : ℕ) (f : List ℕ) (fs : List (ℕ × List ℕ)) (o : Option A) → held f ≡ o → field held ((column, f) ∷ fs) ≡ elim (ok_or o (Field column)) [ Ok z ↦ Ok (z, fs) | Err e ↦ Err e ]
+    reads column f fs o is = ap (λ (q : Option A). elim (ok_or q (Field column)) as (λ r. Result (A × List (ℕ × List ℕ)) ReaderFault) [ Ok z ↦ Ok (z, fs) | Err e ↦ Err e ]) is
 
+    held_so : (o : Option A) → held (first_field line.now) ≡ o → option_map {U = A × ℕ} (λ y. (y, length (first_field line.now))) o ≡ Some (x, n) → (field held (fields_from column left) ≡ Ok (x, fields_from (column + (n + 1)) rest)) × (length (fields_from column left) ≡ length (fields_from (column + (n + 1)) rest) + 1)
+    held_so None is has = cc
+    held_so (Some y) is has =
+        let same : ◌≡◌ {A = A × ℕ} (y, length (first_field line.now)) (x, n) = cc in
+        let same_n : length (first_field line.now) ≡ n = ap (λ (q : A × ℕ). q.1) same in
+        let behind : Behind 44 line.now rest = behind_first line.now rest (rw same_n h) in
+        let steps : fields_from column left ≡ (column, first_field line.now) ∷ fields_from (column + (n + 1)) rest =
+        rw some (fields_first column line.now (first_field line.now) rest refl behind ∙ ap (λ m. (column, first_field line.now) ∷ fields_from (column + (m + 1)) rest) same_n) in
+        (rw steps (reads column (first_field line.now) (fields_from (column + (n + 1)) rest) (Some y) is ∙ ap (λ (q : A × ℕ). Ok (q.0, fields_from (column + (n + 1)) rest)) same), ap length steps ∙ sym (add-one _))
 
 pub field_none : {A : Type 0} (held : List ℕ → Option A) (column : ℕ) (left : Option (Bor (List ℕ))) (line : Bor (List ℕ)) → left ≡ Some line → first_held held line.now ≡ None → field held (fields_from column left) ≡ Err (Field column)
 field_none {A = A} held column left line some has =
     held_so (held (first_field line.now)) refl has
   where
-  reads : (column : ℕ) (f : List ℕ) (fs : List (ℕ × List ℕ)) (o : Option A) → held f ≡ o → field held ((column, f) ∷ fs) ≡ elim (ok_or o (Field column)) [ Ok z ↦ Ok (z, fs) | Err e ↦ Err e ]
-  reads column f fs o is = ap (λ (q : Option A). elim (ok_or q (Field column)) as (λ r. Result (A × List (ℕ × List ℕ)) ReaderFault) [ Ok z ↦ Ok (z, fs) | Err e ↦ Err e ]) is
-  held_so : (o : Option A) → held (first_field line.now) ≡ o → option_map {U = A × ℕ} (λ y. (y, length (first_field line.now))) o ≡ None → field held (fields_from column left) ≡ Err (Field column)
-  held_so (Some y) is has = cc
-  held_so None is has =
-    let some_first = first_then column line.now in
-    rw (some, some_first.1) (reads column (first_field line.now) some_first.0 None is)
+    reads : (column : ℕ) (f : List ℕ) (fs : List (ℕ × List ℕ)) (o : Option A) → held f ≡ o → field held ((column, f) ∷ fs) ≡ elim (ok_or o (Field column)) [ Ok z ↦ Ok (z, fs) | Err e ↦ Err e ]
+    reads column f fs o is = ap (λ (q : Option A). elim (ok_or q (Field column)) as (λ r. Result (A × List (ℕ × List ℕ)) ReaderFault) [ Ok z ↦ Ok (z, fs) | Err e ↦ Err e ]) is
+
+    held_so : (o : Option A) → held (first_field line.now) ≡ o → option_map {U = A × ℕ} (λ y. (y, length (first_field line.now))) o ≡ None → field held (fields_from column left) ≡ Err (Field column)
+    held_so (Some y) is has = cc
+    held_so None is has =
+        let some_first = first_then column line.now in
+        rw (some, some_first.1) (reads column (first_field line.now) some_first.0 None is)
 
 -- a field that is left and does not hold 0
 pub unused_stops : (column : ℕ) (left : Option (Bor (List ℕ))) (e : ReaderFault) → IsSome left → field unused_of (fields_from column left) ≡ Err e → unused (fields_from column left) ≡ Err e
@@ -123,9 +124,9 @@ unused_stops column (Some line) e some is =
     let is_first = rw first.1 at is in
     rw first.1 (so first.0 (lawful unused_of (column, first_field line.now)) is_first)
   where
-  so : (fs : List (ℕ × List ℕ)) (r : Result Unused ReaderFault) → elim r as (λ q. Result (Unused × List (ℕ × List ℕ)) ReaderFault) [ Ok x ↦ Ok (x, fs) | Err f ↦ Err f ] ≡ Err e → result_and r (unused fs) ≡ Err e
-  so fs (Ok x) is = cc
-  so fs (Err f) is = cc
+    so : (fs : List (ℕ × List ℕ)) (r : Result Unused ReaderFault) → elim r as (λ q. Result (Unused × List (ℕ × List ℕ)) ReaderFault) [ Ok x ↦ Ok (x, fs) | Err f ↦ Err f ] ≡ Err e → result_and r (unused fs) ≡ Err e
+    so fs (Ok x) is = cc
+    so fs (Err f) is = cc
 
 length-placed : (column : ℕ) (fs : List (List ℕ)) → length (placed column fs) ≡ length fs
 length-placed column [] = refl

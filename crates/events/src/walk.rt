@@ -60,7 +60,12 @@ impl<'a> Fields<'a> {
     /// What was read of the fields of `rest`, if those are as many as the form asks. That question comes first, but they need
     /// counting only where a field was not read or some are left.
     #[inline(always)]
-    pub(crate) fn counted<T: Copy>(self, rest: &[u8], asked: usize, read: Result<T, ReaderFault>) -> Result<T, ReaderFault>
+    pub(crate) fn counted<T: Copy>(
+        self,
+        rest: &[u8],
+        asked: usize,
+        read: Result<T, ReaderFault>,
+    ) -> Result<T, ReaderFault>
         requires short { length rest.now ≤ 140 }
         requires handed { IfOk read (λ x. length (placed 3 (fields rest.now)) ≡ length (fields_left self) + asked) }
         ensures value { result ≡ (if nat_eq (length (placed 3 (fields rest.now))) asked then read else Err Shape) }

@@ -27,8 +27,8 @@ returns-then-length-eq13 c =
     let more : first_field (drop c.loop-byte.byte-index c.args.text.now) ≡ get_or c.args.text.now c.loop-byte.byte-index 0 ∷ first_field (drop (c.loop-byte.byte-index + 1) c.args.text.now) =
     first_more c.args.text.now c.loop-byte.byte-index (omega arith) (search rules) in
     elim c.then-length-eq13.branch [
-      then-length-eq13-via-then-length-eq13 w ↦ record { value = too_many c.args.text.now (omega (arith, ap length more)) }
-    | then-length-eq13-via-else-length-eq13+then-not-is_ascii_digit w ↦ record { value = no_digit c.args.text.now _ _ _ more c.loop-byte.invariant.digits (search rules) }
+      | then-length-eq13-via-then-length-eq13 w ↦ record { value = too_many c.args.text.now (omega (arith, ap length more)) }
+      | then-length-eq13-via-else-length-eq13+then-not-is_ascii_digit w ↦ record { value = no_digit c.args.text.now _ _ _ more c.loop-byte.invariant.digits (search rules) }
     ]
 
 pub loop-byte-preserved : goal.loop-byte-preserved
