@@ -1,13 +1,10 @@
 -- The first field of what is left of a line, byte by byte.
-use Rattle.std.proofs.Common.{◌&&◌, nat_le, nat_lt, ◌≡◌, ℕ, suc, ◌+◌, ◌-◌, ◌<◌, ◌≤◌, Bool, true, false, cond, eqb, not, List, [], ◌∷◌, length, take, drop, get_or, Some, None, Option, Bor, MatchOption, IsSome, refl, sym, ap, ◌∙◌, add-one, one-add, arith, rules}
-use Rattle.std.specs.List.{before_first, after_first, position_or_len, prefix_len}
+use Rattle.std.proofs.Common.{◌&&◌, nat_le, ◌≡◌, ℕ, suc, ◌+◌, ◌<◌, Bool, true, false, cond, eqb, List, [], ◌∷◌, length, drop, get_or, None, refl, sym, ◌∙◌, add-one, one-add, arith}
 use Rattle.std.specs.Char.{is_ascii_digit}
 use Rattle.std.specs.Str.{all_ascii_digits}
 use Rattle.std.proofs.lemmas.Bool.Decides.{nat_tests}
-use Rattle.std.specs.Slice.{IsGetRangeResult}
 use Rattle.std.proofs.Math.Seq.{drop-cons}
-use Rattle.std.proofs.lemmas.List.{drop_all}
-use Rattle.events.specs.Figures.{number_on, is_figure, figure_of}
+use Rattle.events.specs.Figures.{is_figure, figure_of}
 use Rattle.events.specs.FirstField.{first_field, first_held}
 
 more_of : (c : ℕ) (cs : List ℕ) (b : Bool) → eqb c 44 ≡ b → first_field (c ∷ cs) ≡ cond b [] (c ∷ first_field cs)

@@ -1,4 +1,4 @@
-use Rattle.std.proofs.Common.{rules, sym}
+use Rattle.std.proofs.Common.{rules}
 use Rattle.events.proofs.Steps.{unused_stops}
 use Rattle.events.proofs.fields.Fields.unused.Goals as goal
 
