@@ -20,7 +20,7 @@ pub struct Line {
 /// What stands in a journal's memory before a line is written there.
 pub const EMPTY: Line = Line {
     hold: 0,
-    letter: Letter::Payment,
+    letter: Letter::Bill,
     row: None,
     cents: Money(0),
 };
