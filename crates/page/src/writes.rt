@@ -52,9 +52,13 @@ impl<'a> Page<'a> {
 
     /// A figure in decimal digits, each written in its place.
     #[inline(always)]
+    #[tactic(auto, using(std::proofs::lemmas::Fmt::decimal_digit))]
     pub fn figure(&mut self, n: u64) -> Result<(), Full>
         ensures { Wrote self.old self.new result (decimal n) }
     {
+        if n < 10 {
+            return self.push(b'0' + n as u8);
+        }
         let digits = count_digits(n);
         if digits > self.bytes.len() - self.at {
             return Err(Full);
