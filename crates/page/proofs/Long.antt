@@ -1,7 +1,7 @@
 -- How many digits a figure has. Assumes nothing.
-use Rattle.std.proofs.Common.{◌≡◌, ℕ, ◌+◌, ◌/◌, ◌^◌, ◌<◌, ◌≤◌, length, decimal, arith}
+use Rattle.std.proofs.Common.{◌≡◌, ℕ, ◌/◌, ◌^◌, ◌<◌, ◌≤◌, length, decimal, arith}
 use Rattle.std.proofs.lemmas.Fmt.{length-decimal-le}
-use Rattle.itoa.proofs.Decimal.{length_one, length_two, length_pair}
+use Rattle.itoa.proofs.Decimal.{length_one, length_two, length_pair, length_four}
 
 -- a figure of 64 bits has at most 20
 pub at_most_20 : (n : ℕ) → n < 2 ^ 64 → length (decimal n) ≤ 20
@@ -12,3 +12,6 @@ length_three n least most = omega (arith, length_pair n least (omega arith), len
 
 pub length_of_four : (n : ℕ) → 1000 ≤ n → n < 10000 → length (decimal n) ≡ 4
 length_of_four n least most = omega (arith, length_pair n (omega arith) (omega arith), length_two (n / 100) (omega arith) (omega arith))
+
+-- how many digits a figure has, by its size
+pub ruleset digits_counted = (length_one, length_two, length_three, length_of_four, length_four, at_most_20)

@@ -2,7 +2,7 @@
 //
 // It is no `fmt::Write`: std says nothing of a writer after an `Err`, so that a page written by `write!` could not
 // promise that 21 is answered only where the result does not fit. The writes are inlined: called, they make a
-// statement of many short lines a sixth slower.
+// statement of short lines up to two fifths slower.
 ghost use Rattle.std.specs.Prelude.{◌≡◌, [], ◌∷◌, length, decimal};
 ghost use Rattle.std.specs.Fmt.{signed_decimal};
 ghost use Rattle.page.specs.Pages.{held, Wrote, padded};

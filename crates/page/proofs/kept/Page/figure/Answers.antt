@@ -1,4 +1,4 @@
-use Rattle.std.proofs.Common.{rules, ◌≡◌, ◌+◌, ◌++◌, ◌≤◌, length, decimal, take, arith}
+use Rattle.std.proofs.Common.{◌≡◌, ◌+◌, ◌++◌, decimal, take, arith}
 use Rattle.std.proofs.lemmas.Grind.{common_steps}
 use Rattle.page.proofs.Places.{placed}
 use Rattle.page.proofs.kept.Page.figure.Goals as goal
