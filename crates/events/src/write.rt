@@ -1,9 +1,11 @@
 // Events written as lines.
-ghost use Rattle.std.specs.Prelude.{◌≡◌, ◌∷◌, [], map, length, OnOk};
+ghost use Rattle.std.specs.Prelude.{◌≡◌, ◌∷◌, [], map, length, take, OnOk, IfOk, IfErr};
 ghost use Rattle.std.specs.List.{list_all};
 ghost use Rattle.page.specs.Pages.{Wrote, fitted, padded};
 ghost use Rattle.page.specs.Answered.{cleared};
 ghost use Rattle.events.specs.Written.{is_short, finding_fields, basis_fields, fields_of};
+ghost use Rattle.events.specs.declared.unwritten.Unwritten.TheVariants.{NoLine};
+ghost use Rattle.events.specs.RoundTrip.{ReadsAs, NeverRead};
 ghost use Rattle.events.specs.Writing.{text_of, line_end, Written};
 
 use crate::cell::{Cell, UNUSED};
@@ -46,7 +48,7 @@ fn write_fields(letter: u8, fields: &[Cell], page: &mut [u8]) -> Result<usize, U
     ensures { Written ((letter ∷ []) ∷ map text_of fields.now) page.old (cleared result page.new) result }
 {
     if !are_short(fields) {
-        return Err(Unwritten::Event);
+        return Err(Unwritten::NoLine);
     }
     Ok(fill_page(letter, fields, page)?)
 }
@@ -162,6 +164,8 @@ fn write_line(event: Event, page: &mut [u8]) -> Result<usize, Unwritten>
 /// Writes an event as a line with its line end: how many bytes it has. A refused event leaves zeros.
 pub fn write_event(event: Event, page: &mut [u8]) -> Result<usize, Unwritten>
     ensures after { Written (fields_of event) page.old page.new result }
+    ensures read { IfOk result (λ bytes. ReadsAs (take bytes page.new) event) }
+    ensures unread { IfErr result (λ why. (why ≡ NoLine) → NeverRead event) }
 {
     let result = write_line(event, page);
     if result.is_err() {
