@@ -56,7 +56,7 @@ pub(crate) fn answer(page: &mut Page, outcome: Result<i64, Fault>) -> Result<(),
 }
 
 /// A row's number, or `-` where the line names none.
-fn row(page: &mut Page, row: Option<u32>) -> Result<(), Full>
+fn row(page: &mut Page, row: Option<u8>) -> Result<(), Full>
     ensures { Wrote page.old page.new result (row_text row) }
 {
     match row {
