@@ -51,7 +51,12 @@ pub(crate) fn answer(page: &mut Page, outcome: Result<i64, Fault>) -> Result<(),
 {
     match outcome {
         Ok(value) => answer_line(page, Layer::Account, 0, value),
-        Err(fault) => answer_line(page, fault.layer(), fault.number(), i64::from(fault.value())),
+        Err(fault) => answer_line(
+            page,
+            fault.layer(),
+            fault.number(),
+            i64::from(fault.value()),
+        ),
     }
 }
 
