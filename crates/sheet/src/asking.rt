@@ -6,7 +6,7 @@ ghost use Rattle.method.specs.Uses.{finding_of};
 ghost use Rattle.sheet.specs.Rows.{periods};
 
 use crate::found::Found;
-use crate::laying::{NONE, rewrites, shares, weigh};
+use crate::laying::{NONE, rewrites_sort};
 use method::method::Method;
 
 impl<'a> Found<'a> {
@@ -15,11 +15,10 @@ impl<'a> Found<'a> {
         ensures value { result ≡ length (rewritten (finding_of self.now.finding) 0 (periods self.now.rows.now)) }
         ensures few { result ≤ length self.now.rows.now }
     {
-        let finding = self.finding;
-        self.rows
+        let cause = self.finding.cause;
+        self.covered()
             .iter()
-            .enumerate()
-            .filter(|&(i, row)| rewrites(&finding, i as u64, row))
+            .filter(|row| rewrites_sort(cause, row.sort))
             .count()
     }
 
@@ -28,14 +27,14 @@ impl<'a> Found<'a> {
         requires { length self.now.rows.now ≤ 120 }
         ensures { result ≡ all_fit (rewritten (finding_of self.now.finding) 0 (corrected (finding_of self.now.finding) (M.Method.meaning m.now) 0 0 0 (periods self.now.rows.now))) }
     {
-        let mut before = NONE;
-        for (i, row) in self.rows.iter().enumerate() {
-            if rewrites(&self.finding, i as u64, row) {
-                let w = weigh(m, row);
-                if !shares(m, before, w).fit() {
+        let mut sharing = NONE;
+        let rows = self.covered();
+        for row in rows {
+            if rewrites_sort(self.finding.cause, row.sort) {
+                let shares = sharing.next(m, row);
+                if !shares.fit() {
                     return false;
                 }
-                before = before.plus(w);
             }
         }
         true

@@ -1,52 +1,96 @@
-use Rattle.std.proofs.Common.{◌≡◌, ◌+◌, true, false, ◌&&◌, sym, ap, ap₂, ◌∙◌, arith}
+use Rattle.std.proofs.Common.{◌≡◌, ℕ, List, ◌+◌, ◌<◌, ◌≤◌, Bool, true, false, ◌&&◌, length, sym, ap, ap₂, ◌∙◌, subst, arith}
 use Rattle.method.specs.Uses.{finding_of}
-use Rattle.rules.specs.Subject.{day_weight, peak_weight}
-use Rattle.rules.specs.Laid.{laid, with_standing}
-use Rattle.rules.specs.Questions.{shares_fit}
+use Rattle.rules.specs.Subject.{Finding, Period, day_units, peak_units, day_weight, peak_weight}
+use Rattle.rules.specs.Laid.{laid, with_standing, rewrites_sort, rewrites, rewritten, corrected}
+use Rattle.rules.specs.Questions.{shares_fit, all_fit}
 use Rattle.figures.specs.View.{period_seen}
-use Rattle.sheet.proofs.Asked.{left_at, fitting, fitting-in, fitting-out, fitting-all}
-use Rattle.sheet.proofs.Weights.{weighed_more, weighed_most, weighed_same}
+use Rattle.figures.specs.declared.row.Row.{Row}
+use Rattle.rules.proofs.Shares.{whole_none}
+use Rattle.sheet.specs.Rows.{periods, span_start, covered, pair_fits}
+use Rattle.sheet.specs.Weighing.{Whole}
+use Rattle.sheet.proofs.Asked.{left_at, fitting, fitting_first, fitting-in, fitting-out, fitting-all}
+use Rattle.sheet.proofs.Weights.{weighed_none, weighed_more, weighed_most, weighed_same}
+use Rattle.sheet.proofs.Beside.{rewrites_inside}
+use Rattle.sheet.proofs.Covered.{covered_inside, few_covered, asked_covered}
 use Rattle.sheet.proofs.found.Found.shares_fit.Goals as goal
-use Rattle.sheet.proofs.found.Found.shares_fit.Goals.{then-rewrites+else-not-fit, else-rewrites}
+use Rattle.sheet.proofs.found.Found.shares_fit.Goals.{then-rewrites_sort+else-not-fit, else-rewrites_sort}
+
+-- a row of the span is rewritten by its sort
+by_sort : (f : Finding) (all : List Row) (rows : List Row) (i : ℕ) (p : Period) (b : Bool) → rows ≡ covered f all → i < length rows → b ≡ rewrites_sort f.cause p.sort → rewrites f (span_start f (length all) + i) p ≡ b
+by_sort f all rows i p b e h k = rewrites_inside f (span_start f (length all) + i) p (covered_inside f all i (omega (arith, ap length e))) ∙ sym k
+
+pub loop-row-init : goal.loop-row-init
+loop-row-init g c =
+    let f = finding_of c.args.self.now.finding in
+    let m = g.M.Method.meaning c.args.m.now in
+    record {
+      fitting = fitting_first f (span_start f (length c.args.self.now.rows.now)) m c.covered-rows.result.now;
+      weighed = weighed_none m;
+      wholes = record { day = sym (whole_none (m.upper day_units) m.lower); peak = sym (whole_none (m.upper peak_units) m.lower) };
+    }
+
+pub next-shares-requires-clause-before : goal.next-shares-requires-clause-before
+next-shares-requires-clause-before g c =
+    let few = few_covered (finding_of c.args.self.now.finding) c.args.self.now.rows.now in
+    let all = c.requires in
+    weighed_most (g.M.Method.meaning c.args.m.now) c.loop-row.row-index _ _ 120 (omega (arith, ap length c.covered-rows.ensures)) c.loop-row.invariant.weighed
 
 pub returns-then-not-fit : goal.returns-then-not-fit
 unfolding fitting
 returns-then-not-fit g c =
     let f = finding_of c.args.self.now.finding in
     let m = g.M.Method.meaning c.args.m.now in
-    let rows = c.args.self.now.rows.now in
-    let i = c.loop-i.i in
-    let V = c.loop-i.before.day in
-    let W = c.loop-i.before.peak in
+    let all = c.args.self.now.rows.now in
+    let from = span_start f (length all) in
+    let rows = c.covered-rows.result.now in
+    let i = c.loop-row.row-index in
+    let V = c.loop-row.sharing.day.weight in
+    let W = c.loop-row.sharing.peak.weight in
     let x = c.row-item.result in
-    let e = fitting-in f m rows i V W x (left_at rows i x c.loop-i-test.true c.row-item.is) (sym c.if-rewrites.ensures) in
-    let no : false ≡ shares_fit (with_standing (laid m V W (period_seen x)) (period_seen x)) = cc in
-    ap (λ b. b && fitting f m rows (i + 1) (V + day_weight m (period_seen x)) (W + peak_weight m (period_seen x))) no ∙ sym e ∙ c.loop-i.invariant.0
+    let p = period_seen x in
+    let within : rewrites f (from + i) p ≡ true = by_sort f all rows i p true c.covered-rows.ensures c.loop-row-test.true (sym c.if-rewrites_sort.true ∙ c.rewrites_sort.ensures) in
+    let e = fitting-in f from m rows i V W x (left_at rows i x c.loop-row-test.true c.row-item.is) within in
+    let no : false ≡ shares_fit (with_standing (laid m V W p) p) = sym c.if-not-fit.true ∙ c.fit.ensures ∙ ap₂ pair_fits c.next-shares.ensures.day c.next-shares.ensures.peak in
+    ap (λ b. b && fitting f from m rows (i + 1) (V + day_weight m p) (W + peak_weight m p)) no
+    ∙ sym e
+    ∙ c.loop-row.invariant.fitting
+    ∙ ap (λ xs. all_fit (rewritten f from (corrected f m from 0 0 (periods xs)))) c.covered-rows.ensures
+    ∙ ap all_fit (sym (asked_covered f all m))
 
-pub loop-i-preserved : goal.loop-i-preserved
-loop-i-preserved g c =
+pub loop-row-preserved : goal.loop-row-preserved
+loop-row-preserved g c =
     let f = finding_of c.args.self.now.finding in
     let m = g.M.Method.meaning c.args.m.now in
-    let rows = c.args.self.now.rows.now in
-    let i = c.loop-i.i in
-    let V = c.loop-i.before.day in
-    let W = c.loop-i.before.peak in
+    let all = c.args.self.now.rows.now in
+    let from = span_start f (length all) in
+    let rows = c.covered-rows.result.now in
+    let i = c.loop-row.row-index in
+    let V = c.loop-row.sharing.day.weight in
+    let W = c.loop-row.sharing.peak.weight in
     let x = c.row-item.result in
-    let here = left_at rows i x c.loop-i-test.true c.row-item.is in
-    elim c.if-rewrites.branch [
-      | then-rewrites+else-not-fit w ↦
-          let e = fitting-in f m rows i V W x here (sym w.if-rewrites.ensures) in
-          let a = ap (λ p. p.day) w.before-is ∙ w.plus-before.ensures.0 in
-          let b = ap (λ p. p.peak) w.before-is ∙ w.plus-before.ensures.1 in
-          let V' = V + day_weight m (period_seen x) in
-          let W' = W + peak_weight m (period_seen x) in
-          let day : c.if-rewrites.before.day ≡ V' = a ∙ ap (λ z. V + z) w.weigh-w.ensures.day in
-          let peak : c.if-rewrites.before.peak ≡ W' = b ∙ ap (λ z. W + z) w.weigh-w.ensures.peak in
-          let yes : true ≡ shares_fit (with_standing (laid m V W (period_seen x)) (period_seen x)) = cc in (
-            ap₂ (λ v w. fitting f m rows (i + 1) v w) day peak ∙ ap (λ z. z && fitting f m rows (i + 1) V' W') yes ∙ sym e ∙ c.loop-i.invariant.0,
-            weighed_same m (i + 1) _ _ _ _ a b (weighed_more m i V W _ _ c.loop-i.invariant.1 w.weigh-w.ensures.light),
-          )
-      | else-rewrites w ↦ let e = fitting-out f m rows i V W x here (sym w.if-rewrites.ensures) in (ap₂ (λ v w. fitting f m rows (i + 1) v w) (ap (λ p. p.day) w.before-is) (ap (λ p. p.peak) w.before-is) ∙ sym e ∙ c.loop-i.invariant.0, weighed_same m (i + 1) _ _ _ _ (ap (λ p. p.day) w.before-is) (ap (λ p. p.peak) w.before-is) (weighed_most m i V W (i + 1) (omega arith) c.loop-i.invariant.1))
+    let p = period_seen x in
+    let here = left_at rows i x c.loop-row-test.true c.row-item.is in
+    elim c.if-rewrites_sort.branch [
+      | then-rewrites_sort+else-not-fit w ↦
+          let n = w.next-shares.ensures in
+          let e = fitting-in f from m rows i V W x here (by_sort f all rows i p true c.covered-rows.ensures c.loop-row-test.true (sym w.if-rewrites_sort.true ∙ c.rewrites_sort.ensures)) in
+          let day : c.if-rewrites_sort.sharing.day.weight ≡ V + day_weight m p = ap (λ s. s.day.weight) w.sharing-is ∙ n.day_more in
+          let peak : c.if-rewrites_sort.sharing.peak.weight ≡ W + peak_weight m p = ap (λ s. s.peak.weight) w.sharing-is ∙ n.peak_more in
+          let yes : true ≡ shares_fit (with_standing (laid m V W p) p) = sym w.if-not-fit.false ∙ w.fit.ensures ∙ ap₂ pair_fits n.day n.peak in
+          record {
+            fitting = ap₂ (λ v w. fitting f from m rows (i + 1) v w) day peak ∙ ap (λ b. b && fitting f from m rows (i + 1) (V + day_weight m p) (W + peak_weight m p)) yes ∙ sym e ∙ c.loop-row.invariant.fitting;
+            weighed = weighed_same m (i + 1) _ _ _ _ day peak (weighed_more m i V W _ _ c.loop-row.invariant.weighed n.light);
+            wholes = subst (Whole m) (sym w.sharing-is) n.wholes;
+          }
+      | else-rewrites_sort w ↦
+          let e = fitting-out f from m rows i V W x here (by_sort f all rows i p false c.covered-rows.ensures c.loop-row-test.true (sym w.if-rewrites_sort.false ∙ c.rewrites_sort.ensures)) in
+          let day : c.if-rewrites_sort.sharing.day.weight ≡ V = ap (λ s. s.day.weight) w.sharing-is in
+          let peak : c.if-rewrites_sort.sharing.peak.weight ≡ W = ap (λ s. s.peak.weight) w.sharing-is in
+          record {
+            fitting = ap₂ (λ v w. fitting f from m rows (i + 1) v w) day peak ∙ sym e ∙ c.loop-row.invariant.fitting;
+            weighed = weighed_same m (i + 1) _ _ _ _ day peak (weighed_most m i V W (i + 1) (omega arith) c.loop-row.invariant.weighed);
+            wholes = subst (Whole m) (sym w.sharing-is) c.loop-row.invariant.wholes;
+          }
     ]
 
 pub returns : goal.returns
@@ -54,4 +98,9 @@ unfolding fitting
 returns g c =
     let f = finding_of c.args.self.now.finding in
     let m = g.M.Method.meaning c.args.m.now in
-    sym (fitting-all f m c.args.self.now.rows.now c.loop-i.i c.loop-i.before.day c.loop-i.before.peak c.loop-i-test.false) ∙ c.loop-i.invariant.0
+    let all = c.args.self.now.rows.now in
+    let from = span_start f (length all) in
+    sym (fitting-all f from m c.covered-rows.result.now c.loop-row.row-index c.loop-row.sharing.day.weight c.loop-row.sharing.peak.weight c.loop-row-test.false)
+    ∙ c.loop-row.invariant.fitting
+    ∙ ap (λ xs. all_fit (rewritten f from (corrected f m from 0 0 (periods xs)))) c.covered-rows.ensures
+    ∙ ap all_fit (sym (asked_covered f all m))

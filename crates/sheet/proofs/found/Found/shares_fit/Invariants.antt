@@ -1,12 +1,19 @@
-use Rattle.std.proofs.Common.{◌≡◌}
+use Rattle.std.proofs.Common.{◌≡◌, length}
+use Rattle.rules.specs.Laid.{rewritten, corrected}
+use Rattle.rules.specs.Questions.{all_fit}
 use Rattle.method.specs.Uses.{finding_of}
-use Rattle.sheet.specs.Weighing.{Weighed}
+use Rattle.sheet.specs.Rows.{periods, span_start}
+use Rattle.sheet.specs.Weighing.{Weighed, Whole}
 use Rattle.sheet.proofs.Asked.{fitting}
 use Rattle.sheet.proofs.found.Found.shares_fit.Given as goal
 
-abbrev pub invariant-loop-i : goal.invariant-loop-i
-invariant-loop-i g l =
+abbrev pub invariant-loop-row : goal.invariant-loop-row
+invariant-loop-row g l =
     let f = finding_of l.self.finding in
+    let from = span_start f (length l.self.rows.now) in
     let m = g.M.Method.meaning l.m in
-    (fitting f m l.self.rows.now l.i l.before.day l.before.peak ≡ fitting f m l.self.rows.now 0 0 0)
-    × Weighed m l.i l.before.day l.before.peak
+    record {
+      fitting : fitting f from m l.rows l.row-index l.sharing.day.weight l.sharing.peak.weight ≡ all_fit (rewritten f from (corrected f m from 0 0 (periods l.rows)));
+      weighed : Weighed m l.row-index l.sharing.day.weight l.sharing.peak.weight;
+      wholes : Whole m l.sharing
+    }

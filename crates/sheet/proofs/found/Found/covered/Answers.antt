@@ -1,0 +1,11 @@
+use Rattle.sheet.proofs.Covered as beside
+use Rattle.std.proofs.Common.{◌≡◌, ◌-◌, length, take, drop, ap₂}
+use Rattle.method.specs.Uses.{finding_of}
+use Rattle.sheet.specs.Rows.{covered}
+use Rattle.sheet.proofs.found.Found.covered.Goals as goal
+
+pub returns : goal.returns
+unfolding covered
+returns c =
+    let places = c.places-places.ensures in
+    ap₂ (λ a b. take (b - a) (drop a c.args.self.now.rows.now)) places.start places.end
