@@ -3,14 +3,14 @@ use Rattle.std.proofs.Common.{◌≡◌, ℕ, suc, ◌+◌, ◌-◌, ◌<◌, �
 use Rattle.std.specs.List.{list_all}
 use Rattle.std.proofs.lemmas.List.{take-append-drop, length-take-le, length-drop, length-map, map-append, drop-drop, drop-take, take-take}
 use Rattle.rules.specs.Subject.{Period, Tariff, Finding, Method}
-use Rattle.rules.specs.Laid.{in_span, rewritten, corrected}
+use Rattle.rules.specs.Laid.{in_span, rewrites_sort, rewrites, rewritten, corrected}
 use Rattle.rules.specs.Questions.{of_sort, every, all_fit}
 use Rattle.rules.specs.Law as law
 use Rattle.rules.specs.Machine.{period_of, relay, posts}
 use Rattle.figures.specs.View.{seen, period_seen}
 use Rattle.figures.specs.declared.row.Row.{Row}
 use Rattle.sheet.specs.Rows.{periods, span_start, span_end, covered, sort_fits}
-use Rattle.sheet.proofs.Beside.{within_span, rewritten_between, asked_between, relay_between, posts_between, every_between}
+use Rattle.sheet.proofs.Beside.{within_span, rewrites_inside, rewritten_between, asked_between, relay_between, posts_between, every_between}
 
 module _ (f : Finding) (rows : List Row) where
   abbrev start : ℕ
@@ -121,3 +121,7 @@ covered_part f memory n h =
     sym (take-take (e - s) (n - s) (drop s memory) (omega arith))
     ∙ ap (take (e - s)) (sym (drop-take s (n - s) memory) ∙ ap (λ k. drop s (take k memory)) rest)
     ∙ ap (λ k. take (span_end f k - span_start f k) (drop (span_start f k) (take n memory))) (sym (length-take-le n memory h))
+
+-- a row of the span is rewritten by its sort
+pub by_sort : (f : Finding) (all rows : List Row) (i : ℕ) (p : Period) (b : Bool) → rows ≡ covered f all → i < length rows → b ≡ rewrites_sort f.cause p.sort → rewrites f (span_start f (length all) + i) p ≡ b
+by_sort f all rows i p b e h k = rewrites_inside f (span_start f (length all) + i) p (covered_inside f all i (omega (arith, ap length e))) ∙ sym k

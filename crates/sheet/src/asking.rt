@@ -1,12 +1,12 @@
 // The questions of a correction about what it lays down.
-ghost use Rattle.std.specs.Prelude.{◌≡◌, ◌≤◌, length};
+ghost use Rattle.std.specs.Prelude.{◌≡◌, ◌≤◌, true, length};
 ghost use Rattle.rules.specs.Laid.{rewritten, corrected};
 ghost use Rattle.rules.specs.Questions.{all_fit};
 ghost use Rattle.method.specs.Uses.{finding_of};
 ghost use Rattle.sheet.specs.Rows.{periods};
 
 use crate::found::Found;
-use crate::laying::{NONE, rewrites_sort};
+use crate::laying::{NONE, Pair, rewrites_sort, weigh, wholes};
 use method::method::Method;
 
 impl<'a> Found<'a> {
@@ -22,8 +22,23 @@ impl<'a> Found<'a> {
             .count()
     }
 
-    /// Whether every share of the rows that a correction rewrites keeps the limit.
-    pub fn shares_fit<M: Method>(&self, m: &M) -> bool
+    /// Whether the rows that a correction rewrites have shares that keep the limit all together, and so each alone.
+    fn fit_together<M: Method>(&self, m: &M) -> bool
+        requires { length self.now.rows.now ≤ 120 }
+        ensures { result ≡ true → all_fit (rewritten (finding_of self.now.finding) 0 (corrected (finding_of self.now.finding) (M.Method.meaning m.now) 0 0 0 (periods self.now.rows.now))) ≡ true }
+    {
+        let mut weights = Pair { day: 0, peak: 0 };
+        let rows = self.covered();
+        for row in rows {
+            if rewrites_sort(self.finding.cause, row.sort) {
+                weights = weights.plus(weigh(m, row));
+            }
+        }
+        wholes(m, weights).fit()
+    }
+
+    /// Whether each share of the rows that a correction rewrites keeps the limit.
+    fn each_fits<M: Method>(&self, m: &M) -> bool
         requires { length self.now.rows.now ≤ 120 }
         ensures { result ≡ all_fit (rewritten (finding_of self.now.finding) 0 (corrected (finding_of self.now.finding) (M.Method.meaning m.now) 0 0 0 (periods self.now.rows.now))) }
     {
@@ -38,5 +53,13 @@ impl<'a> Found<'a> {
             }
         }
         true
+    }
+    /// Whether every share of the rows that a correction rewrites keeps the limit. The rows are asked together first, since that
+    /// divides once a register and not once a row.
+    pub fn shares_fit<M: Method>(&self, m: &M) -> bool
+        requires { length self.now.rows.now ≤ 120 }
+        ensures { result ≡ all_fit (rewritten (finding_of self.now.finding) 0 (corrected (finding_of self.now.finding) (M.Method.meaning m.now) 0 0 0 (periods self.now.rows.now))) }
+    {
+        self.fit_together(m) || self.each_fits(m)
     }
 }

@@ -28,6 +28,17 @@ impl Pair {
     {
         self.day <= 1_000_000 && self.peak <= 1_000_000
     }
+
+    /// The weights with those of one row more.
+    pub(crate) fn plus(self, w: Pair) -> Pair
+        requires { (self.day + w.day < 2 ^ 64) × (self.peak + w.peak < 2 ^ 64) }
+        ensures { (result.day ≡ self.day + w.day) × (result.peak ≡ self.peak + w.peak) }
+    {
+        Pair {
+            day: self.day + w.day,
+            peak: self.peak + w.peak,
+        }
+    }
 }
 
 /// Whether a correction for the cause rewrites the rows of its span that are of this sort.
@@ -55,6 +66,19 @@ pub(crate) fn weigh<M: Method>(m: &M, row: &Row) -> Pair
     Pair {
         day: m.weight(Register::Day, seen),
         peak: m.weight(Register::Peak, seen),
+    }
+}
+
+/// The whole units that rows of these weights get together.
+pub(crate) fn wholes<M: Method>(m: &M, w: Pair) -> Pair
+    requires { Weighed (M.Method.meaning m.now) 120 w.day w.peak }
+    ensures day { result.day ≡ whole_of ((M.Method.meaning m.now).upper day_units) (M.Method.meaning m.now).lower w.day }
+    ensures peak { result.peak ≡ whole_of ((M.Method.meaning m.now).upper peak_units) (M.Method.meaning m.now).lower w.peak }
+{
+    let lower = m.lower();
+    Pair {
+        day: whole(m.upper(Register::Day), lower, w.day),
+        peak: whole(m.upper(Register::Peak), lower, w.peak),
     }
 }
 

@@ -5,7 +5,7 @@ use Rattle.method.specs.Uses.{finding_of}
 use Rattle.sheet.specs.Rows.{periods, span_start}
 use Rattle.sheet.specs.Weighing.{Weighed, Whole}
 use Rattle.sheet.proofs.Asked.{fitting}
-use Rattle.sheet.proofs.found.Found.shares_fit.Given as goal
+use Rattle.sheet.proofs.found.Found.each_fits.Given as goal
 
 abbrev pub invariant-loop-row : goal.invariant-loop-row
 invariant-loop-row g l =

@@ -10,14 +10,9 @@ use Rattle.sheet.specs.Rows.{periods, span_start, covered, pair_fits}
 use Rattle.sheet.specs.Weighing.{Whole}
 use Rattle.sheet.proofs.Asked.{left_at, fitting, fitting_first, fitting-in, fitting-out, fitting-all}
 use Rattle.sheet.proofs.Weights.{weighed_none, weighed_more, weighed_most, weighed_same}
-use Rattle.sheet.proofs.Beside.{rewrites_inside}
-use Rattle.sheet.proofs.Covered.{covered_inside, few_covered, asked_covered}
-use Rattle.sheet.proofs.found.Found.shares_fit.Goals as goal
-use Rattle.sheet.proofs.found.Found.shares_fit.Goals.{then-rewrites_sort+else-not-fit, else-rewrites_sort}
-
--- a row of the span is rewritten by its sort
-by_sort : (f : Finding) (all : List Row) (rows : List Row) (i : ℕ) (p : Period) (b : Bool) → rows ≡ covered f all → i < length rows → b ≡ rewrites_sort f.cause p.sort → rewrites f (span_start f (length all) + i) p ≡ b
-by_sort f all rows i p b e h k = rewrites_inside f (span_start f (length all) + i) p (covered_inside f all i (omega (arith, ap length e))) ∙ sym k
+use Rattle.sheet.proofs.Covered.{by_sort, few_covered, asked_covered}
+use Rattle.sheet.proofs.found.Found.each_fits.Goals as goal
+use Rattle.sheet.proofs.found.Found.each_fits.Goals.{then-rewrites_sort+else-not-fit, else-rewrites_sort}
 
 pub loop-row-init : goal.loop-row-init
 loop-row-init g c =
