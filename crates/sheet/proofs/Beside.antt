@@ -1,17 +1,16 @@
 -- Rows beside a span, which no correction rewrites. Assumes nothing.
-use Rattle.std.proofs.Common.{◌≡◌, ℕ, suc, ◌+◌, ◌-◌, ◌<◌, ◌≤◌, min, max, ℤ, pos, ◌-ℤ◌, Some, Bool, true, false, cond, not, ◌&&◌, ◌||◌, leb, List, [], ◌∷◌, ◌++◌, map, length, take, drop, sym, refl, ap, ◌∙◌, ap₂, subst, arith}
+use Rattle.std.proofs.Common.{◌≡◌, ℕ, suc, ◌+◌, ◌<◌, ◌≤◌, pos, ◌-ℤ◌, Some, Bool, true, false, cond, not, ◌&&◌, ◌||◌, leb, List, [], ◌∷◌, ◌++◌, length, sym, refl, ap, ◌∙◌, ap₂, arith}
 use Rattle.std.specs.List.{list_all}
-use Rattle.std.proofs.lemmas.List.{take-append-drop, length-take-le, length-drop, drop-drop, append_assoc, append-nil}
-use Rattle.std.proofs.lemmas.Bool.{cond-true, cond-false, leb-true, leb-false}
+use Rattle.std.proofs.lemmas.Bool.{cond-false, leb-true, leb-false}
 use Rattle.rules.specs.Subject.{Period, Tariff, Finding, Method, day_weight, peak_weight}
 use Rattle.rules.specs.Laid.{laid, with_standing, in_span, rewrites_sort, rewrites, rewritten, corrected}
-use Rattle.rules.specs.Questions.{of_sort, every, all_fit}
+use Rattle.rules.specs.Questions.{of_sort, every}
 use Rattle.rules.specs.Law as law
-use Rattle.rules.specs.Machine.{period_of, rewritten_row, relay, posts}
-use Rattle.rules.proofs.Runs.{of_cond, relay_periods}
-use Rattle.figures.specs.View.{seen, period_seen}
+use Rattle.rules.specs.Machine.{rewritten_row, relay, posts}
+use Rattle.rules.proofs.Runs.{of_cond}
+use Rattle.figures.specs.View.{period_seen}
 use Rattle.figures.specs.declared.row.Row.{Row}
-use Rattle.sheet.specs.Rows.{periods, span_start, span_end, covered, sort_fits}
+use Rattle.sheet.specs.Rows.{periods, sort_fits}
 
 module _ (f : Finding) where
   before_span : (i : ℕ) → i < f.first → in_span f i ≡ false
@@ -32,9 +31,9 @@ module _ (f : Finding) where
   within_span i a b =
       elim (leb f.first i) as (λ x. leb f.first i ≡ x → (x && leb i f.last) ≡ true) [
         | true ↦ λ e. elim (leb i f.last) as (λ y. leb i f.last ≡ y → y ≡ true) [
-            | true ↦ λ k. refl
-            | false ↦ λ k. absurd (omega (arith, leb-false i f.last k))
-          ] refl
+          | true ↦ λ k. refl
+          | false ↦ λ k. absurd (omega (arith, leb-false i f.last k))
+        ] refl
         | false ↦ λ e. absurd (omega (arith, leb-false f.first i e))
       ] refl
 
@@ -152,9 +151,9 @@ module _ (f : Finding) where
         let e : 0 + length xs ≡ length xs = omega arith in
         let n : length (corrected f m (length xs) 0 0 ys) ≡ length ys = length-corrected (length xs) 0 0 ys in
         ap (rewritten f 0) (
-          corrected_before 0 0 0 xs (ys ++ zs) (omega arith)
-          ∙ ap (λ j. xs ++ corrected f m j 0 0 (ys ++ zs)) e
-          ∙ ap (λ ps. xs ++ ps) (corrected_up (length xs) 0 0 ys zs b)
+        corrected_before 0 0 0 xs (ys ++ zs) (omega arith)
+        ∙ ap (λ j. xs ++ corrected f m j 0 0 (ys ++ zs)) e
+        ∙ ap (λ ps. xs ++ ps) (corrected_up (length xs) 0 0 ys zs b)
         )
         ∙ rewritten_between xs (corrected f m (length xs) 0 0 ys) zs a (λ k. omega (arith, b k))
 

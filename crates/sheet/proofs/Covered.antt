@@ -1,11 +1,10 @@
 -- The rows of a span, as a part of the sheet: what is asked of the sheet is asked of them alone. Assumes nothing.
-use Rattle.std.proofs.Common.{◌≡◌, ℕ, suc, ◌+◌, ◌-◌, ◌<◌, ◌≤◌, min, max, Bool, true, false, not, ◌&&◌, ◌||◌, List, [], ◌∷◌, ◌++◌, map, length, take, drop, sym, refl, ap, ◌∙◌, ap₂, subst, arith}
+use Rattle.std.proofs.Common.{◌≡◌, ℕ, ◌+◌, ◌-◌, ◌<◌, ◌≤◌, Bool, true, List, ◌++◌, map, length, take, drop, sym, ap, ◌∙◌, subst, arith}
 use Rattle.std.specs.List.{list_all}
 use Rattle.std.proofs.lemmas.List.{take-append-drop, length-take-le, length-drop, length-map, map-append, drop-drop, drop-take, take-take}
 use Rattle.rules.specs.Subject.{Period, Tariff, Finding, Method}
 use Rattle.rules.specs.Laid.{in_span, rewrites_sort, rewrites, rewritten, corrected}
-use Rattle.rules.specs.Questions.{of_sort, every, all_fit}
-use Rattle.rules.specs.Law as law
+use Rattle.rules.specs.Questions.{of_sort, every}
 use Rattle.rules.specs.Machine.{period_of, relay, posts}
 use Rattle.figures.specs.View.{seen, period_seen}
 use Rattle.figures.specs.declared.row.Row.{Row}
@@ -41,8 +40,8 @@ module _ (f : Finding) (rows : List Row) where
       let e : start + (end - start) ≡ end = omega arith in
       sym (take-append-drop start rows)
       ∙ ap (λ xs. ahead ++ xs) (
-        sym (take-append-drop (end - start) (drop start rows))
-        ∙ ap (λ xs. covered f rows ++ xs) (drop-drop (end - start) start rows ∙ ap (λ k. drop k rows) e)
+      sym (take-append-drop (end - start) (drop start rows))
+      ∙ ap (λ xs. covered f rows ++ xs) (drop-drop (end - start) start rows ∙ ap (λ k. drop k rows) e)
       )
 
   ahead_before : length ahead ≤ f.first

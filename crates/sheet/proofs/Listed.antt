@@ -1,7 +1,7 @@
 -- The rows that a correction rewrites, counted. Assumes nothing.
 use Rattle.std.proofs.Common.{◌≡◌, ℕ, suc, ◌+◌, ◌<◌, ◌≤◌, Bool, true, false, cond, List, [], ◌∷◌, length, refl, sym, ap, ◌∙◌, arith}
 use Rattle.std.specs.List.{filter}
-use Rattle.rules.specs.Subject.{Period, Finding}
+use Rattle.rules.specs.Subject.{Finding}
 use Rattle.rules.specs.Laid.{in_span, rewrites_sort, rewrites, rewritten}
 use Rattle.figures.specs.View.{period_seen}
 use Rattle.figures.specs.declared.row.Row.{Row}

@@ -116,8 +116,14 @@ pub(crate) struct Sharing {
 
 /// No rows.
 pub(crate) const NONE: Sharing = Sharing {
-    day: Running { weight: 0, whole: 0 },
-    peak: Running { weight: 0, whole: 0 },
+    day: Running {
+        weight: 0,
+        whole: 0,
+    },
+    peak: Running {
+        weight: 0,
+        whole: 0,
+    },
 };
 
 impl Sharing {

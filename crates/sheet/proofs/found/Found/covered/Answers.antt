@@ -1,6 +1,4 @@
-use Rattle.sheet.proofs.Covered as beside
-use Rattle.std.proofs.Common.{◌≡◌, ◌-◌, length, take, drop, ap₂}
-use Rattle.method.specs.Uses.{finding_of}
+use Rattle.std.proofs.Common.{◌-◌, take, drop, ap₂}
 use Rattle.sheet.specs.Rows.{covered}
 use Rattle.sheet.proofs.found.Found.covered.Goals as goal
 

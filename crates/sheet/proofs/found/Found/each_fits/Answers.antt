@@ -1,12 +1,11 @@
-use Rattle.std.proofs.Common.{◌≡◌, ℕ, List, ◌+◌, ◌<◌, ◌≤◌, Bool, true, false, ◌&&◌, length, sym, ap, ap₂, ◌∙◌, subst, arith}
+use Rattle.std.proofs.Common.{◌≡◌, ◌+◌, true, false, ◌&&◌, length, sym, ap, ap₂, ◌∙◌, subst, arith}
 use Rattle.method.specs.Uses.{finding_of}
-use Rattle.rules.specs.Subject.{Finding, Period, day_units, peak_units, day_weight, peak_weight}
-use Rattle.rules.specs.Laid.{laid, with_standing, rewrites_sort, rewrites, rewritten, corrected}
+use Rattle.rules.specs.Subject.{day_units, peak_units, day_weight, peak_weight}
+use Rattle.rules.specs.Laid.{laid, with_standing, rewrites, rewritten, corrected}
 use Rattle.rules.specs.Questions.{shares_fit, all_fit}
 use Rattle.figures.specs.View.{period_seen}
-use Rattle.figures.specs.declared.row.Row.{Row}
 use Rattle.rules.proofs.Shares.{whole_none}
-use Rattle.sheet.specs.Rows.{periods, span_start, covered, pair_fits}
+use Rattle.sheet.specs.Rows.{periods, span_start, pair_fits}
 use Rattle.sheet.specs.Weighing.{Whole}
 use Rattle.sheet.proofs.Asked.{left_at, fitting, fitting_first, fitting-in, fitting-out, fitting-all}
 use Rattle.sheet.proofs.Weights.{weighed_none, weighed_more, weighed_most, weighed_same}

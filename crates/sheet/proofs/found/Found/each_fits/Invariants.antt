@@ -15,5 +15,5 @@ invariant-loop-row g l =
     record {
       fitting : fitting f from m l.rows l.row-index l.sharing.day.weight l.sharing.peak.weight ≡ all_fit (rewritten f from (corrected f m from 0 0 (periods l.rows)));
       weighed : Weighed m l.row-index l.sharing.day.weight l.sharing.peak.weight;
-      wholes : Whole m l.sharing
+      wholes : Whole m l.sharing;
     }

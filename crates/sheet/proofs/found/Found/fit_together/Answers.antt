@@ -1,4 +1,4 @@
-use Rattle.std.proofs.Common.{◌≡◌, ℕ, ◌+◌, ◌≤◌, true, false, leb, ◌&&◌, length, sym, ap, ap₂, ◌∙◌, subst, arith}
+use Rattle.std.proofs.Common.{◌≡◌, ℕ, ◌+◌, ◌≤◌, true, false, leb, ◌&&◌, length, sym, ap, ap₂, ◌∙◌, arith}
 use Rattle.std.proofs.lemmas.Bool.{and_parts, and_from, leb-true, le-leb}
 use Rattle.rules.specs.Subject.{Period, Method, day_units, peak_units, day_weight, peak_weight}
 use Rattle.rules.specs.Sharing.{whole, share}
@@ -7,7 +7,7 @@ use Rattle.rules.specs.Questions.{shares_fit, all_fit}
 use Rattle.rules.proofs.Shares.{whole_more}
 use Rattle.method.specs.Uses.{finding_of}
 use Rattle.figures.specs.View.{period_seen}
-use Rattle.sheet.specs.Rows.{periods, span_start, pair_fits}
+use Rattle.sheet.specs.Rows.{periods, span_start}
 use Rattle.sheet.proofs.Asked.{left_at, fitting, fitting_first, fitting-in, fitting-out, fitting-all}
 use Rattle.sheet.proofs.Weights.{weighed_none, weighed_more, weighed_most, weighed_same}
 use Rattle.sheet.proofs.Covered.{by_sort, few_covered, asked_covered}
@@ -56,12 +56,12 @@ loop-row-preserved g c =
           let peak : c.if-rewrites_sort.weights.peak ≡ W + peak_weight m p = b ∙ ap (λ z. W + z) w.weigh.ensures.peak in
           record {
             fitting = λ h k.
-              let h' : whole (m.upper day_units) m.lower (V + day_weight m p) ≤ 1000000 = omega (arith, ap (whole (m.upper day_units) m.lower) day) in
-              let k' : whole (m.upper peak_units) m.lower (W + peak_weight m p) ≤ 1000000 = omega (arith, ap (whole (m.upper peak_units) m.lower) peak) in
-              ap₂ (λ v w. fitting f from m rows (i + 1) v w) day peak
-              ∙ ap (λ b. b && fitting f from m rows (i + 1) (V + day_weight m p) (W + peak_weight m p)) (fits_under m V W p h' k')
-              ∙ sym e
-              ∙ c.loop-row.invariant.fitting (omega (arith, whole_more (m.upper day_units) m.lower V (day_weight m p))) (omega (arith, whole_more (m.upper peak_units) m.lower W (peak_weight m p)));
+                let h' : whole (m.upper day_units) m.lower (V + day_weight m p) ≤ 1000000 = omega (arith, ap (whole (m.upper day_units) m.lower) day) in
+                let k' : whole (m.upper peak_units) m.lower (W + peak_weight m p) ≤ 1000000 = omega (arith, ap (whole (m.upper peak_units) m.lower) peak) in
+                ap₂ (λ v w. fitting f from m rows (i + 1) v w) day peak
+                ∙ ap (λ b. b && fitting f from m rows (i + 1) (V + day_weight m p) (W + peak_weight m p)) (fits_under m V W p h' k')
+                ∙ sym e
+                ∙ c.loop-row.invariant.fitting (omega (arith, whole_more (m.upper day_units) m.lower V (day_weight m p))) (omega (arith, whole_more (m.upper peak_units) m.lower W (peak_weight m p)));
             weighed = weighed_same m (i + 1) _ _ _ _ a b (weighed_more m i V W _ _ c.loop-row.invariant.weighed w.weigh.ensures.light);
           }
       | else-rewrites_sort w ↦
@@ -70,9 +70,9 @@ loop-row-preserved g c =
           let peak : c.if-rewrites_sort.weights.peak ≡ W = ap (λ q. q.peak) w.weights-is in
           record {
             fitting = λ h k.
-              ap₂ (λ v w. fitting f from m rows (i + 1) v w) day peak
-              ∙ sym e
-              ∙ c.loop-row.invariant.fitting (omega (arith, ap (whole (m.upper day_units) m.lower) day)) (omega (arith, ap (whole (m.upper peak_units) m.lower) peak));
+                ap₂ (λ v w. fitting f from m rows (i + 1) v w) day peak
+                ∙ sym e
+                ∙ c.loop-row.invariant.fitting (omega (arith, ap (whole (m.upper day_units) m.lower) day)) (omega (arith, ap (whole (m.upper peak_units) m.lower) peak));
             weighed = weighed_same m (i + 1) _ _ _ _ day peak (weighed_most m i V W (i + 1) (omega arith) c.loop-row.invariant.weighed);
           }
     ]

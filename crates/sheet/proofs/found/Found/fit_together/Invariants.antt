@@ -17,5 +17,5 @@ invariant-loop-row g l =
     record {
       fitting : whole (m.upper day_units) m.lower l.weights.day ≤ 1000000 → whole (m.upper peak_units) m.lower l.weights.peak ≤ 1000000 →
           fitting f from m l.rows l.row-index l.weights.day l.weights.peak ≡ all_fit (rewritten f from (corrected f m from 0 0 (periods l.rows)));
-      weighed : Weighed m l.row-index l.weights.day l.weights.peak
+      weighed : Weighed m l.row-index l.weights.day l.weights.peak;
     }

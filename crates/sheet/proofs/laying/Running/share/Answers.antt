@@ -1,4 +1,4 @@
-use Rattle.std.proofs.Common.{◌+◌, arith}
+use Rattle.std.proofs.Common.{arith}
 use Rattle.rules.proofs.Shares.{whole_more}
 use Rattle.sheet.proofs.laying.Running.share.Goals as goal
 
