@@ -17,3 +17,5 @@ mod memory;
 mod periods;
 #[cfg(test)]
 mod runs;
+#[cfg(test)]
+mod writing;

@@ -4,3 +4,5 @@ pub mod Digits
 pub mod Joined
 pub mod Spelled
 pub mod Written
+pub mod ReadBack
+pub mod RoundTrip

@@ -9,3 +9,4 @@ pub mod LinesLeft
 pub mod FieldsLeft
 pub mod Written
 pub mod Writing
+pub mod RoundTrip

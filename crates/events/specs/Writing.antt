@@ -15,7 +15,7 @@ text_of (Figure n) = decimal n
 
 -- the question that was answered no
 abbrev pub unwritten_number : Unwritten → ℕ
-unwritten_number unwritten.Event = 19
+unwritten_number unwritten.NoLine = 19
 unwritten_number unwritten.Page = 21
 
 -- the line of fields, and its end

@@ -9,7 +9,7 @@ use page::Full;
 #[derive(Clone, Copy, Debug, PartialEq, Eq)]
 pub enum Unwritten {
     /// One of its figures has more digits than a field holds.
-    Event = 19,
+    NoLine = 19,
     /// Its line does not fit the page.
     Page = 21,
 }

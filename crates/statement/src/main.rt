@@ -11,6 +11,9 @@ use std::process::ExitCode;
 /// Room for every result: at most 24 bytes to answer each of 65,536 lines, at most 40 for each of 1,024 journal lines, and the sums.
 const ROOM: usize = 1_614_000;
 
+/// One byte more than a text may have: an input that is too long is seen to be, and refused, and not read to its end.
+const MOST: u64 = 65_537;
+
 /// What the arguments ask for; a tariff goes by its number, as in the office.
 #[derive(Clone, Copy)]
 struct Asked {
@@ -48,7 +51,7 @@ fn arguments(rt: &HostRuntime) -> anyhow::Result<Asked> {
 fn run(rt: &HostRuntime) -> anyhow::Result<()> {
     let asked = arguments(rt)?;
     let mut text = Vec::new(rt.alloc());
-    rt.stdin().read_to_end(&mut text)?;
+    rt.stdin().take(MOST).read_to_end(&mut text)?;
     let mut page = vec![in rt.alloc(); 0u8; ROOM]?;
     let bytes = statement(
         asked.tariff,

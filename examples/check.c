@@ -1,0 +1,62 @@
+/* What the call leaves on the page and beside it: a page of just the right length, of one byte less, of none, and refusals. */
+#include "maqdylez.h"
+
+#include <stdio.h>
+#include <string.h>
+
+/* Room before and after the page, which no call may touch. */
+enum { ROOM = 64 };
+
+static uint8_t memory[ROOM + MAQDYLEZ_LARGEST_PAGE + ROOM];
+static uint8_t longest[MAQDYLEZ_LONGEST_TEXT + 1];
+static int failed;
+
+/* Whether the page holds so many written bytes and then zeros, and what stands beside it is as it was. */
+static int left_well(size_t page_len, size_t written)
+{
+    for (size_t i = 0; i < sizeof memory; i++) {
+        int on_page = i >= ROOM && i < ROOM + page_len;
+        if (!on_page && memory[i] != 0xA5)
+            return 0;
+        if (on_page && i >= ROOM + written && memory[i] != 0)
+            return 0;
+    }
+    return 1;
+}
+
+static void check(const char *what, uint32_t tariff, uint32_t opening, const uint8_t *text, size_t text_len, size_t page_len,
+                  uint32_t number, uint64_t value)
+{
+    memset(memory, 0xA5, sizeof memory);
+    maqdylez_answer answer = maqdylez_statement(tariff, opening, text, text_len, memory + ROOM, page_len);
+    int well = answer.number == number && answer.value == value && left_well(page_len, (size_t)value);
+    printf("%s: %u %llu%s\n", what, (unsigned)answer.number, (unsigned long long)answer.value, well ? "" : " (wrong)");
+    failed |= !well;
+}
+
+int main(void)
+{
+    const uint8_t *take = (const uint8_t *)"T,100,10\n";
+    const uint8_t *odd = (const uint8_t *)"T,100,10\r\n\0\n\xff\xfe,1\n";
+
+    /* A,a,0,1 and S,0,0, each with its line end */
+    check("a page of just the right length", 1, 0, take, 9, 14, MAQDYLEZ_ACCEPTED, 14);
+    check("a longer page", 1, 0, take, 9, 100, MAQDYLEZ_ACCEPTED, 14);
+    check("one byte less", 1, 0, take, 9, 13, MAQDYLEZ_PAGE, 0);
+    check("a page of no bytes", 1, 0, take, 9, 0, MAQDYLEZ_PAGE, 0);
+    check("no line end", 1, 0, take, 8, 14, MAQDYLEZ_ACCEPTED, 14);
+    check("an empty text", 1, 0, take, 0, 14, MAQDYLEZ_TEXT, 0);
+    check("tariff 0", 0, 0, take, 9, 14, MAQDYLEZ_FIGURES, 0);
+    check("tariff 5", 5, 0, take, 9, 14, MAQDYLEZ_FIGURES, 0);
+    check("the last day", 4, 18262, take, 9, 14, MAQDYLEZ_ACCEPTED, 14);
+    check("a day later", 4, 18263, take, 9, 14, MAQDYLEZ_FIGURES, 0);
+    /* A,r,19,7, then A,r,18,1 twice */
+    check("a carriage return, a zero byte, bytes above 127", 1, 0, odd, 17, 100, MAQDYLEZ_ACCEPTED, 33);
+
+    memset(longest, '\n', sizeof longest);
+    check("65,536 bytes", 1, 0, longest, MAQDYLEZ_LONGEST_TEXT, MAQDYLEZ_LARGEST_PAGE, MAQDYLEZ_ACCEPTED, 9 * 65536 + 6);
+    check("65,537 bytes", 1, 0, longest, MAQDYLEZ_LONGEST_TEXT + 1, MAQDYLEZ_LARGEST_PAGE, MAQDYLEZ_TEXT, 0);
+    check("tariff before text", 0, 0, longest, 0, 0, MAQDYLEZ_FIGURES, 0);
+    check("text before page", 1, 0, longest, 0, 0, MAQDYLEZ_TEXT, 0);
+    return failed;
+}

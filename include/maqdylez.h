@@ -1,0 +1,59 @@
+/*
+ * Maqdylez: the statement of an account, for the office's program.
+ *
+ * A text of events goes in: who took the account, which readings were billed, which were corrected, what was paid, one
+ * event a line. A page comes out: an answer to each line, then the account's journal, then its balance and amount due.
+ * docs/FORMATS.md has the lines of both.
+ *
+ * Link with the archive crates/office/out/liboffice.a, which `rt lib` makes in crates/office. It needs no library but C's,
+ * takes no memory but about 40 kilobytes of the stack, keeps nothing between calls, and may be called from several
+ * threads at a time, each with a page of its own.
+ */
+#ifndef MAQDYLEZ_H
+#define MAQDYLEZ_H
+
+#include <stddef.h>
+#include <stdint.h>
+
+#ifdef __cplusplus
+extern "C" {
+#endif
+
+/* The numbers of an answer. */
+enum {
+    MAQDYLEZ_ACCEPTED = 0, /* the page holds the statement */
+    MAQDYLEZ_FIGURES = 2,  /* the tariff's number is not 1 to 4, or the opening day not 0 to 18262 */
+    MAQDYLEZ_PAGE = 21,    /* the statement does not fit the page */
+    MAQDYLEZ_TEXT = 22     /* the text is empty, or longer than MAQDYLEZ_LONGEST_TEXT */
+};
+
+/* The longest text, in bytes. */
+#define MAQDYLEZ_LONGEST_TEXT 65536
+
+/* A page of so many bytes has room for the statement of every text. */
+#define MAQDYLEZ_LARGEST_PAGE 1614000
+
+typedef struct maqdylez_answer {
+    uint32_t number; /* 0, or the question that was answered no */
+    uint64_t value;  /* the bytes of the statement, or 0 where it is refused */
+} maqdylez_answer;
+
+/*
+ * Writes the statement of a text on a page.
+ *
+ * tariff   1 H-1 at 10 kVA, 2 H-2, 3 H-2 by time of day, 4 from 1 to 2 on day 365
+ * opening  the day on which the account opens, from 0 (1 January 2000) to 18262
+ * text     text_len bytes, a line for each event; no zero byte need follow
+ * page     page_len bytes, all of which are written: the statement and then zeros, or zeros alone where it is refused
+ *
+ * Neither pointer may be null, also where its length is 0. Text and page must not overlap. Nothing outside the page is
+ * written. The questions are put in this order: MAQDYLEZ_FIGURES, MAQDYLEZ_TEXT, MAQDYLEZ_PAGE.
+ */
+maqdylez_answer maqdylez_statement(uint32_t tariff, uint32_t opening, const uint8_t *text, size_t text_len, uint8_t *page,
+                                   size_t page_len);
+
+#ifdef __cplusplus
+}
+#endif
+
+#endif
