@@ -6,7 +6,7 @@ ghost use Rattle.method.specs.Uses.{finding_of};
 ghost use Rattle.sheet.specs.Rows.{periods};
 
 use crate::found::Found;
-use crate::laying::{NONE, Pair, rewrites_sort, weigh, wholes};
+use crate::laying::{NONE, rewrites_sort, weigh, wholes};
 use method::method::Method;
 
 impl<'a> Found<'a> {
@@ -27,7 +27,7 @@ impl<'a> Found<'a> {
         requires { length self.now.rows.now ≤ 120 }
         ensures { result ≡ true → all_fit (rewritten (finding_of self.now.finding) 0 (corrected (finding_of self.now.finding) (M.Method.meaning m.now) 0 0 0 (periods self.now.rows.now))) ≡ true }
     {
-        let mut weights = Pair { day: 0, peak: 0 };
+        let mut weights = NONE.weights;
         let rows = self.covered();
         for row in rows {
             if rewrites_sort(self.finding.cause, row.sort) {
@@ -54,6 +54,7 @@ impl<'a> Found<'a> {
         }
         true
     }
+
     /// Whether every share of the rows that a correction rewrites keeps the limit. The rows are asked together first, since that
     /// divides once a register and not once a row.
     pub fn shares_fit<M: Method>(&self, m: &M) -> bool

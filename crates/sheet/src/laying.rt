@@ -50,7 +50,7 @@ pub(crate) fn rewrites_sort(c: Cause, s: Sort) -> bool
 
 /// The whole units that rows of this weight get together.
 fn whole(upper: u64, lower: u64, weight: u64) -> u64
-    requires { (1 ≤ lower) × (weight * upper ≤ 1210000000000000000) }
+    requires { (1 ≤ lower) × (weight * upper ≤ 1200000000000000000) }
     ensures { result ≡ whole_of upper lower weight }
 {
     weight * upper / lower
@@ -82,67 +82,38 @@ pub(crate) fn wholes<M: Method>(m: &M, w: Pair) -> Pair
     }
 }
 
-/// Rows taken together in one register: what they weigh, and the whole units that they get.
-#[derive(Clone, Copy)]
-pub(crate) struct Running {
-    pub weight: u64,
-    pub whole: u64,
-}
-
-impl Running {
-    /// The share of one row more, of this weight.
-    fn share(&mut self, upper: u64, lower: u64, weight: u64) -> u64
-        requires least { 1 ≤ lower }
-        requires sum { self.old.weight + weight ≤ 121000000000 }
-        requires product { (self.old.weight + weight) * upper ≤ 1210000000000000000 }
-        requires whole { self.old.whole ≡ whole_of upper lower self.old.weight }
-        ensures value { result ≡ share-of upper lower self.old.weight weight }
-        ensures weight { self.new.weight ≡ self.old.weight + weight }
-        ensures whole { self.new.whole ≡ whole_of upper lower self.new.weight }
-    {
-        let before = self.whole;
-        self.weight += weight;
-        self.whole = whole(upper, lower, self.weight);
-        self.whole - before
-    }
-}
-
-/// The rows that a method has shared over so far.
+/// The rows that a method has shared over so far: what they weigh, and the whole units that they get together.
 #[derive(Clone, Copy)]
 pub(crate) struct Sharing {
-    pub day: Running,
-    pub peak: Running,
+    pub weights: Pair,
+    pub wholes: Pair,
 }
 
 /// No rows.
 pub(crate) const NONE: Sharing = Sharing {
-    day: Running {
-        weight: 0,
-        whole: 0,
-    },
-    peak: Running {
-        weight: 0,
-        whole: 0,
-    },
+    weights: Pair { day: 0, peak: 0 },
+    wholes: Pair { day: 0, peak: 0 },
 };
 
 impl Sharing {
     /// The shares of one row more.
     pub(crate) fn next<M: Method>(&mut self, m: &M, row: &Row) -> Pair
-        requires before { Weighed (M.Method.meaning m.now) 120 self.old.day.weight self.old.peak.weight }
+        requires before { Weighed (M.Method.meaning m.now) 119 self.old.weights.day self.old.weights.peak }
         requires wholes { Whole (M.Method.meaning m.now) self.old }
-        ensures day { result.day ≡ share-of ((M.Method.meaning m.now).upper day_units) (M.Method.meaning m.now).lower self.old.day.weight (day_weight (M.Method.meaning m.now) (period_seen row.now)) }
-        ensures peak { result.peak ≡ share-of ((M.Method.meaning m.now).upper peak_units) (M.Method.meaning m.now).lower self.old.peak.weight (peak_weight (M.Method.meaning m.now) (period_seen row.now)) }
-        ensures day_more { self.new.day.weight ≡ self.old.day.weight + day_weight (M.Method.meaning m.now) (period_seen row.now) }
-        ensures peak_more { self.new.peak.weight ≡ self.old.peak.weight + peak_weight (M.Method.meaning m.now) (period_seen row.now) }
+        ensures day { result.day ≡ share-of ((M.Method.meaning m.now).upper day_units) (M.Method.meaning m.now).lower self.old.weights.day (day_weight (M.Method.meaning m.now) (period_seen row.now)) }
+        ensures peak { result.peak ≡ share-of ((M.Method.meaning m.now).upper peak_units) (M.Method.meaning m.now).lower self.old.weights.peak (peak_weight (M.Method.meaning m.now) (period_seen row.now)) }
+        ensures day_more { self.new.weights.day ≡ self.old.weights.day + day_weight (M.Method.meaning m.now) (period_seen row.now) }
+        ensures peak_more { self.new.weights.peak ≡ self.old.weights.peak + peak_weight (M.Method.meaning m.now) (period_seen row.now) }
         ensures light { Light (M.Method.meaning m.now) (day_weight (M.Method.meaning m.now) (period_seen row.now)) (peak_weight (M.Method.meaning m.now) (period_seen row.now)) }
         ensures wholes { Whole (M.Method.meaning m.now) self.new }
     {
-        let w = weigh(m, row);
-        let lower = m.lower();
-        let day = self.day.share(m.upper(Register::Day), lower, w.day);
-        let peak = self.peak.share(m.upper(Register::Peak), lower, w.peak);
-        Pair { day, peak }
+        let before = self.wholes;
+        self.weights = self.weights.plus(weigh(m, row));
+        self.wholes = wholes(m, self.weights);
+        Pair {
+            day: self.wholes.day - before.day,
+            peak: self.wholes.peak - before.peak,
+        }
     }
 }
 
@@ -151,8 +122,7 @@ pub(crate) fn alone<M: Method>(m: &M, row: &Row) -> Pair
     ensures day { result.day ≡ share-of ((M.Method.meaning m.now).upper day_units) (M.Method.meaning m.now).lower 0 (day_weight (M.Method.meaning m.now) (period_seen row.now)) }
     ensures peak { result.peak ≡ share-of ((M.Method.meaning m.now).upper peak_units) (M.Method.meaning m.now).lower 0 (peak_weight (M.Method.meaning m.now) (period_seen row.now)) }
 {
-    let mut sharing = NONE;
-    sharing.next(m, row)
+    wholes(m, weigh(m, row))
 }
 
 /// What the method lays down for a row, its shares given.

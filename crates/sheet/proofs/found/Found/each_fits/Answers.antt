@@ -27,7 +27,7 @@ pub next-shares-requires-clause-before : goal.next-shares-requires-clause-before
 next-shares-requires-clause-before g c =
     let few = few_covered (finding_of c.args.self.now.finding) c.args.self.now.rows.now in
     let all = c.requires in
-    weighed_most (g.M.Method.meaning c.args.m.now) c.loop-row.row-index _ _ 120 (omega (arith, ap length c.covered-rows.ensures)) c.loop-row.invariant.weighed
+    weighed_most (g.M.Method.meaning c.args.m.now) c.loop-row.row-index _ _ 119 (omega (arith, ap length c.covered-rows.ensures, c.loop-row-test.true)) c.loop-row.invariant.weighed
 
 pub returns-then-not-fit : goal.returns-then-not-fit
 unfolding fitting
@@ -38,8 +38,8 @@ returns-then-not-fit g c =
     let from = span_start f (length all) in
     let rows = c.covered-rows.result.now in
     let i = c.loop-row.row-index in
-    let V = c.loop-row.sharing.day.weight in
-    let W = c.loop-row.sharing.peak.weight in
+    let V = c.loop-row.sharing.weights.day in
+    let W = c.loop-row.sharing.weights.peak in
     let x = c.row-item.result in
     let p = period_seen x in
     let within : rewrites f (from + i) p ≡ true = by_sort f all rows i p true c.covered-rows.ensures c.loop-row-test.true (sym c.if-rewrites_sort.true ∙ c.rewrites_sort.ensures) in
@@ -59,8 +59,8 @@ loop-row-preserved g c =
     let from = span_start f (length all) in
     let rows = c.covered-rows.result.now in
     let i = c.loop-row.row-index in
-    let V = c.loop-row.sharing.day.weight in
-    let W = c.loop-row.sharing.peak.weight in
+    let V = c.loop-row.sharing.weights.day in
+    let W = c.loop-row.sharing.weights.peak in
     let x = c.row-item.result in
     let p = period_seen x in
     let here = left_at rows i x c.loop-row-test.true c.row-item.is in
@@ -68,8 +68,8 @@ loop-row-preserved g c =
       | then-rewrites_sort+else-not-fit w ↦
           let n = w.next-shares.ensures in
           let e = fitting-in f from m rows i V W x here (by_sort f all rows i p true c.covered-rows.ensures c.loop-row-test.true (sym w.if-rewrites_sort.true ∙ c.rewrites_sort.ensures)) in
-          let day : c.if-rewrites_sort.sharing.day.weight ≡ V + day_weight m p = ap (λ s. s.day.weight) w.sharing-is ∙ n.day_more in
-          let peak : c.if-rewrites_sort.sharing.peak.weight ≡ W + peak_weight m p = ap (λ s. s.peak.weight) w.sharing-is ∙ n.peak_more in
+          let day : c.if-rewrites_sort.sharing.weights.day ≡ V + day_weight m p = ap (λ s. s.weights.day) w.sharing-is ∙ n.day_more in
+          let peak : c.if-rewrites_sort.sharing.weights.peak ≡ W + peak_weight m p = ap (λ s. s.weights.peak) w.sharing-is ∙ n.peak_more in
           let yes : true ≡ shares_fit (with_standing (laid m V W p) p) = sym w.if-not-fit.false ∙ w.fit.ensures ∙ ap₂ pair_fits n.day n.peak in
           record {
             fitting = ap₂ (λ v w. fitting f from m rows (i + 1) v w) day peak ∙ ap (λ b. b && fitting f from m rows (i + 1) (V + day_weight m p) (W + peak_weight m p)) yes ∙ sym e ∙ c.loop-row.invariant.fitting;
@@ -78,8 +78,8 @@ loop-row-preserved g c =
           }
       | else-rewrites_sort w ↦
           let e = fitting-out f from m rows i V W x here (by_sort f all rows i p false c.covered-rows.ensures c.loop-row-test.true (sym w.if-rewrites_sort.false ∙ c.rewrites_sort.ensures)) in
-          let day : c.if-rewrites_sort.sharing.day.weight ≡ V = ap (λ s. s.day.weight) w.sharing-is in
-          let peak : c.if-rewrites_sort.sharing.peak.weight ≡ W = ap (λ s. s.peak.weight) w.sharing-is in
+          let day : c.if-rewrites_sort.sharing.weights.day ≡ V = ap (λ s. s.weights.day) w.sharing-is in
+          let peak : c.if-rewrites_sort.sharing.weights.peak ≡ W = ap (λ s. s.weights.peak) w.sharing-is in
           record {
             fitting = ap₂ (λ v w. fitting f from m rows (i + 1) v w) day peak ∙ sym e ∙ c.loop-row.invariant.fitting;
             weighed = weighed_same m (i + 1) _ _ _ _ day peak (weighed_most m i V W (i + 1) (omega arith) c.loop-row.invariant.weighed);
@@ -94,7 +94,7 @@ returns g c =
     let m = g.M.Method.meaning c.args.m.now in
     let all = c.args.self.now.rows.now in
     let from = span_start f (length all) in
-    sym (fitting-all f from m c.covered-rows.result.now c.loop-row.row-index c.loop-row.sharing.day.weight c.loop-row.sharing.peak.weight c.loop-row-test.false)
+    sym (fitting-all f from m c.covered-rows.result.now c.loop-row.row-index c.loop-row.sharing.weights.day c.loop-row.sharing.weights.peak c.loop-row-test.false)
     ∙ c.loop-row.invariant.fitting
     ∙ ap (λ xs. all_fit (rewritten f from (corrected f m from 0 0 (periods xs)))) c.covered-rows.ensures
     ∙ ap all_fit (sym (asked_covered f all m))

@@ -13,7 +13,7 @@ invariant-loop-row g l =
     let from = span_start f (length l.self.rows.now) in
     let m = g.M.Method.meaning l.m in
     record {
-      fitting : fitting f from m l.rows l.row-index l.sharing.day.weight l.sharing.peak.weight ≡ all_fit (rewritten f from (corrected f m from 0 0 (periods l.rows)));
-      weighed : Weighed m l.row-index l.sharing.day.weight l.sharing.peak.weight;
+      fitting : fitting f from m l.rows l.row-index l.sharing.weights.day l.sharing.weights.peak ≡ all_fit (rewritten f from (corrected f m from 0 0 (periods l.rows)));
+      weighed : Weighed m l.row-index l.sharing.weights.day l.sharing.weights.peak;
       wholes : Whole m l.sharing;
     }
