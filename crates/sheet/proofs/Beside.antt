@@ -1,26 +1,21 @@
 -- Rows beside a span, which no correction rewrites. Assumes nothing.
-use Rattle.std.proofs.Common.{◌≡◌, ℕ, suc, ◌+◌, ◌<◌, ◌≤◌, pos, ◌-ℤ◌, Some, Bool, true, false, cond, not, ◌&&◌, ◌||◌, leb, List, [], ◌∷◌, ◌++◌, length, sym, refl, ap, ◌∙◌, ap₂, arith}
-use Rattle.std.specs.List.{list_all}
+use Rattle.std.proofs.Common.{◌≡◌, ℕ, suc, ◌+◌, ◌<◌, ◌≤◌, pos, ◌-ℤ◌, Some, Bool, true, false, cond, ◌&&◌, leb, List, [], ◌∷◌, ◌++◌, length, sym, refl, ap, ◌∙◌, ap₂, arith}
 use Rattle.std.proofs.lemmas.Bool.{cond-false, leb-true, leb-false}
 use Rattle.rules.specs.Subject.{Period, Tariff, Finding, Method, day_weight, peak_weight}
 use Rattle.rules.specs.Laid.{laid, with_standing, in_span, rewrites_sort, rewrites, rewritten, corrected}
-use Rattle.rules.specs.Questions.{of_sort, every}
 use Rattle.rules.specs.Law as law
 use Rattle.rules.specs.Machine.{rewritten_row, relay, posts}
 use Rattle.rules.proofs.Runs.{of_cond}
-use Rattle.figures.specs.View.{period_seen}
-use Rattle.figures.specs.declared.row.Row.{Row}
-use Rattle.sheet.specs.Rows.{periods, sort_fits}
 
 module _ (f : Finding) where
-  before_span : (i : ℕ) → i < f.first → in_span f i ≡ false
+  pub before_span : (i : ℕ) → i < f.first → in_span f i ≡ false
   before_span i h =
       elim (leb f.first i) as (λ b. leb f.first i ≡ b → (b && leb i f.last) ≡ false) [
         | true ↦ λ e. absurd (omega (arith, leb-true f.first i e))
         | false ↦ λ e. refl
       ] refl
 
-  past_span : (i : ℕ) → f.last < i → in_span f i ≡ false
+  pub past_span : (i : ℕ) → f.last < i → in_span f i ≡ false
   past_span i h =
       elim (leb i f.last) as (λ b. leb i f.last ≡ b → (leb f.first i && b) ≡ false) [
         | true ↦ λ e. absurd (omega (arith, leb-true i f.last e))
@@ -48,7 +43,7 @@ module _ (f : Finding) where
   cond_same true x = refl
   cond_same false x = refl
 
-  shifted : (i n : ℕ) → suc i + n ≡ i + suc n
+  pub shifted : (i n : ℕ) → suc i + n ≡ i + suc n
   shifted i n = omega arith
 
   -- rows before the span, and rows past it
@@ -81,35 +76,6 @@ module _ (f : Finding) where
       rewritten_before 0 xs (ys ++ zs) (omega arith)
       ∙ ap (λ j. rewritten f j (ys ++ zs)) e
       ∙ rewritten_up (length xs) ys zs b
-
-  -- the rows' sorts
-  every_before : (i : ℕ) (xs ys : List Period) → i + length xs ≤ f.first → every (sort_fits f) i (xs ++ ys) ≡ every (sort_fits f) (i + length xs) ys
-  every_before i [] ys h = let e : i ≡ i + 0 = omega arith in ap (λ j. every (sort_fits f) j ys) e
-  every_before i (x ∷ xs) ys h =
-      ap (λ b. (not b || of_sort f.cause x.sort) && every (sort_fits f) (suc i) (xs ++ ys)) (before_span i (omega arith))
-      ∙ every_before (suc i) xs ys (omega arith)
-      ∙ ap (λ j. every (sort_fits f) j ys) (shifted i (length xs))
-
-  every_past : (i : ℕ) (zs : List Period) → (1 ≤ length zs → f.last < i) → every (sort_fits f) i zs ≡ true
-  every_past i [] h = refl
-  every_past i (z ∷ zs) h =
-      ap (λ b. (not b || of_sort f.cause z.sort) && every (sort_fits f) (suc i) zs) (past_span i (h (omega arith)))
-      ∙ every_past (suc i) zs (λ k. omega (arith, h (omega arith)))
-
-  every_within : (i : ℕ) (rows : List Row) (zs : List Period) → ((k : ℕ) → k < length rows → in_span f (i + k) ≡ true) → (1 ≤ length zs → f.last < i + length rows) → every (sort_fits f) i (periods rows ++ zs) ≡ list_all (λ r. of_sort f.cause (period_seen r).sort) rows
-  every_within i [] zs inside h = every_past i zs (λ k. omega (arith, h k))
-  every_within i (r ∷ rows) zs inside h =
-      let s = of_sort f.cause (period_seen r).sort in
-      let e : i + 0 ≡ i = omega arith in
-      ap (λ b. (not b || s) && every (sort_fits f) (suc i) (periods rows ++ zs)) (ap (in_span f) (sym e) ∙ inside 0 (omega arith))
-      ∙ ap (λ b. s && b) (every_within (suc i) rows zs (λ k l. ap (in_span f) (shifted i k) ∙ inside (suc k) (omega arith)) (λ k. omega (arith, h k)))
-
-  pub every_between : (xs : List Period) (rows : List Row) (zs : List Period) → length xs ≤ f.first → (1 ≤ length zs → f.last < length xs + length rows) → ((k : ℕ) → k < length rows → in_span f (length xs + k) ≡ true) → every (sort_fits f) 0 (xs ++ (periods rows ++ zs)) ≡ list_all (λ r. of_sort f.cause (period_seen r).sort) rows
-  every_between xs rows zs a b inside =
-      let e : 0 + length xs ≡ length xs = omega arith in
-      every_before 0 xs (periods rows ++ zs) (omega arith)
-      ∙ ap (λ j. every (sort_fits f) j (periods rows ++ zs)) e
-      ∙ every_within (length xs) rows zs inside b
 
   module _ (m : Method) where
     corrected_before : (i V W : ℕ) (xs ys : List Period) → i + length xs ≤ f.first → corrected f m i V W (xs ++ ys) ≡ xs ++ corrected f m (i + length xs) V W ys

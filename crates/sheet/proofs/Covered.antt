@@ -9,7 +9,8 @@ use Rattle.rules.specs.Machine.{period_of, relay, posts}
 use Rattle.figures.specs.View.{seen, period_seen}
 use Rattle.figures.specs.declared.row.Row.{Row}
 use Rattle.sheet.specs.Rows.{periods, span_start, span_end, covered, sort_fits}
-use Rattle.sheet.proofs.Beside.{within_span, rewrites_inside, rewritten_between, asked_between, relay_between, posts_between, every_between}
+use Rattle.sheet.proofs.Beside.{within_span, rewrites_inside, rewritten_between, asked_between, relay_between, posts_between}
+use Rattle.sheet.proofs.Sorts.{every_between}
 
 module _ (f : Finding) (rows : List Row) where
   abbrev start : ℕ
