@@ -1,5 +1,7 @@
 // Causes of corrections, and what a finding says.
-ghost use Rattle.std.specs.Prelude.{◌≡◌, ◌+◌, ◌-◌, ◌&&◌, ◌||◌, ◌==◌, nat_le};
+ghost use Rattle.std.specs.Prelude.{◌≡◌, ◌+◌, ◌-◌, min, max};
+
+use std::ops::Range;
 
 /// Why rows are corrected: no reading could be had, the meter ran under or over, stopped, or was altered.
 #[derive(Clone, Copy, Debug, PartialEq, Eq)]
@@ -44,10 +46,15 @@ pub struct Finding {
 }
 
 impl Span {
-    pub fn has(self, row: u64) -> bool
-        ensures { result ≡ (nat_le self.first row && nat_le row self.last) }
+    /// The places of its rows among `count` rows.
+    pub fn places(self, count: usize) -> Range<usize>
+        ensures start { result.start ≡ min self.first count }
+        ensures end { result.end ≡ max (min self.first count) (min (self.last + 1) count) }
     {
-        (self.first..=self.last).contains(&row)
+        let count = count as u64;
+        let start = self.first.min(count);
+        let end = self.last.saturating_add(1).clamp(start, count);
+        start as usize..end as usize
     }
 
     /// How many rows it has: none where the last comes before the first.
@@ -55,12 +62,5 @@ impl Span {
         ensures { result ≡ self.last + 1 - self.first }
     {
         (u128::from(self.last) + 1).saturating_sub(u128::from(self.first))
-    }
-
-    /// Whether the row is just before the span, or just after it.
-    pub fn adjoins(self, row: u64) -> bool
-        ensures { result ≡ ((row + 1 == self.first) || (row == self.last + 1)) }
-    {
-        self.first.checked_sub(1) == Some(row) || row.checked_sub(1) == Some(self.last)
     }
 }

@@ -1,26 +1,31 @@
--- Tests of the rows one by one, as the rows are counted off. Assumes nothing.
-use Rattle.std.proofs.Common.{◌≡◌, ℕ, suc, ◌+◌, ◌≤◌, Bool, true, false, cond, ◌&&◌, List, [], ◌∷◌, length, refl, ap, ◌∙◌, add-one, arith}
-use Rattle.std.specs.List.{list_all, enumerate_from, filter}
-use Rattle.rules.specs.Subject.{Period, Finding}
-use Rattle.rules.specs.Laid.{rewrites, rewritten}
-use Rattle.rules.specs.Questions.{every}
+-- The rows that a correction rewrites, counted. Assumes nothing.
+use Rattle.std.proofs.Common.{◌≡◌, ℕ, suc, ◌+◌, ◌<◌, ◌≤◌, Bool, true, false, cond, List, [], ◌∷◌, length, refl, sym, ap, ◌∙◌, arith}
+use Rattle.std.specs.List.{filter}
+use Rattle.rules.specs.Subject.{Finding}
+use Rattle.rules.specs.Laid.{in_span, rewrites_sort, rewrites, rewritten}
 use Rattle.figures.specs.View.{period_seen}
 use Rattle.figures.specs.declared.row.Row.{Row}
-use Rattle.sheet.specs.Rows.{periods}
+use Rattle.sheet.specs.Rows.{periods, span_start, covered}
+use Rattle.sheet.proofs.Beside.{rewrites_inside}
+use Rattle.sheet.proofs.Covered.{covered_inside, rewritten_covered}
 
-pub every_listed : (q : ℕ → Period → Bool) (i : ℕ) (rows : List Row) → list_all (λ e. q e.0 (period_seen e.1)) (enumerate_from i rows) ≡ every q i (periods rows)
-every_listed q i [] = refl
-every_listed q i (r ∷ rows) = ap (λ b. q i (period_seen r) && b) (every_listed q (i + 1) rows ∙ ap (λ j. every q j (periods rows)) (add-one i))
-
-pub rewritten_listed : (f : Finding) (i : ℕ) (rows : List Row) → length (filter (λ e. rewrites f e.0 (period_seen e.1)) (enumerate_from i rows)) ≡ length (rewritten f i (periods rows))
+-- rows that are all in the span
+rewritten_inside : (f : Finding) (i : ℕ) (rows : List Row) → ((k : ℕ) → k < length rows → in_span f (i + k) ≡ true) → length (filter (λ r. rewrites_sort f.cause (period_seen r).sort) rows) ≡ length (rewritten f i (periods rows))
 unfolding rewritten
-rewritten_listed f i [] = refl
-rewritten_listed f i (r ∷ rows) =
-    let seen = λ (e : ℕ × Row). rewrites f e.0 (period_seen e.1) in
-    let xs = filter seen (enumerate_from (i + 1) rows) in
+rewritten_inside f i [] inside = refl
+rewritten_inside f i (r ∷ rows) inside =
+    let p = period_seen r in
+    let xs = filter (λ r. rewrites_sort f.cause (period_seen r).sort) rows in
     let ps = rewritten f (suc i) (periods rows) in
-    let rest : length xs ≡ length ps = rewritten_listed f (i + 1) rows ∙ ap (λ j. length (rewritten f j (periods rows))) (add-one i) in
-    elim (rewrites f i (period_seen r)) as (λ b. length (cond b ((i, r) ∷ xs) xs) ≡ length (cond b (period_seen r ∷ ps) ps)) [ true ↦ ap suc rest | false ↦ rest ]
+    let here : i + 0 ≡ i = omega arith in
+    let next : (k : ℕ) → suc i + k ≡ i + suc k = λ k. omega arith in
+    let e : rewrites f i p ≡ rewrites_sort f.cause p.sort = rewrites_inside f i p (ap (in_span f) (sym here) ∙ inside 0 (omega arith)) in
+    let rest : length xs ≡ length ps = rewritten_inside f (suc i) rows (λ k h. ap (in_span f) (next k) ∙ inside (suc k) (omega arith)) in
+    let both : (b : Bool) → length (cond b (r ∷ xs) xs) ≡ length (cond b (p ∷ ps) ps) = λ b. elim b as (λ b. length (cond b (r ∷ xs) xs) ≡ length (cond b (p ∷ ps) ps)) [ true ↦ ap suc rest | false ↦ rest ] in
+    both (rewrites_sort f.cause p.sort) ∙ ap (λ b. length (cond b (p ∷ ps) ps)) (sym e)
+
+pub rewritten_listed : (f : Finding) (rows : List Row) → length (filter (λ r. rewrites_sort f.cause (period_seen r).sort) (covered f rows)) ≡ length (rewritten f 0 (periods rows))
+rewritten_listed f rows = rewritten_inside f (span_start f (length rows)) (covered f rows) (covered_inside f rows) ∙ ap length (sym (rewritten_covered f rows))
 
 pub rewritten_few : (f : Finding) (i : ℕ) (rows : List Row) → length (rewritten f i (periods rows)) ≤ length rows
 unfolding rewritten

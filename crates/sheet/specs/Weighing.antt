@@ -1,6 +1,8 @@
 -- How heavy rows can be: what keeps the sums of the sharing rule small. Assumes nothing.
-use Rattle.std.specs.Prelude.{ℕ, ◌*◌, ◌≤◌}
+use Rattle.std.specs.Prelude.{◌≡◌, ℕ, ◌*◌, ◌≤◌}
 use Rattle.rules.specs.Subject.{Method, day_units, peak_units}
+use Rattle.rules.specs.Sharing.{whole}
+use Rattle.sheet.specs.declared.laying.Sharing.{Sharing}
 
 -- V and W are weights of at most n rows together
 pub record Weighed (m : Method) (n V W : ℕ) : Type 0 where
@@ -12,3 +14,8 @@ pub record Weighed (m : Method) (n V W : ℕ) : Type 0 where
 -- v and w are the weights of one row
 abbrev pub Light : Method → (v w : ℕ) → Type 0
 Light m v w = Weighed m 1 v w
+
+-- the running wholes are those of the running weights
+pub record Whole (m : Method) (s : Sharing) : Type 0 where
+  pub day : s.wholes.day ≡ whole (m.upper day_units) m.lower s.weights.day
+  pub peak : s.wholes.peak ≡ whole (m.upper peak_units) m.lower s.weights.peak

@@ -1,12 +1,12 @@
 // The questions of a correction about what it lays down.
-ghost use Rattle.std.specs.Prelude.{◌≡◌, ◌≤◌, length};
+ghost use Rattle.std.specs.Prelude.{◌≡◌, ◌≤◌, true, length};
 ghost use Rattle.rules.specs.Laid.{rewritten, corrected};
 ghost use Rattle.rules.specs.Questions.{all_fit};
 ghost use Rattle.method.specs.Uses.{finding_of};
 ghost use Rattle.sheet.specs.Rows.{periods};
 
 use crate::found::Found;
-use crate::laying::{NONE, rewrites, shares, weigh};
+use crate::laying::{NONE, rewrites_sort, weigh, wholes};
 use method::method::Method;
 
 impl<'a> Found<'a> {
@@ -15,29 +15,52 @@ impl<'a> Found<'a> {
         ensures value { result ≡ length (rewritten (finding_of self.now.finding) 0 (periods self.now.rows.now)) }
         ensures few { result ≤ length self.now.rows.now }
     {
-        let finding = self.finding;
-        self.rows
+        let cause = self.finding.cause;
+        self.covered()
             .iter()
-            .enumerate()
-            .filter(|&(i, row)| rewrites(&finding, i as u64, row))
+            .filter(|row| rewrites_sort(cause, row.sort))
             .count()
     }
 
-    /// Whether every share of the rows that a correction rewrites keeps the limit.
+    /// Whether the rows that a correction rewrites have shares that keep the limit all together, and so each alone.
+    fn fit_together<M: Method>(&self, m: &M) -> bool
+        requires { length self.now.rows.now ≤ 120 }
+        ensures { result ≡ true → all_fit (rewritten (finding_of self.now.finding) 0 (corrected (finding_of self.now.finding) (M.Method.meaning m.now) 0 0 0 (periods self.now.rows.now))) ≡ true }
+    {
+        let mut weights = NONE.weights;
+        let rows = self.covered();
+        for row in rows {
+            if rewrites_sort(self.finding.cause, row.sort) {
+                weights = weights.plus(weigh(m, row));
+            }
+        }
+        wholes(m, weights).fit()
+    }
+
+    /// Whether each share of the rows that a correction rewrites keeps the limit.
+    fn each_fits<M: Method>(&self, m: &M) -> bool
+        requires { length self.now.rows.now ≤ 120 }
+        ensures { result ≡ all_fit (rewritten (finding_of self.now.finding) 0 (corrected (finding_of self.now.finding) (M.Method.meaning m.now) 0 0 0 (periods self.now.rows.now))) }
+    {
+        let mut sharing = NONE;
+        let rows = self.covered();
+        for row in rows {
+            if rewrites_sort(self.finding.cause, row.sort) {
+                let shares = sharing.next(m, row);
+                if !shares.fit() {
+                    return false;
+                }
+            }
+        }
+        true
+    }
+
+    /// Whether every share of the rows that a correction rewrites keeps the limit. The rows are asked together first, since that
+    /// divides once a register and not once a row.
     pub fn shares_fit<M: Method>(&self, m: &M) -> bool
         requires { length self.now.rows.now ≤ 120 }
         ensures { result ≡ all_fit (rewritten (finding_of self.now.finding) 0 (corrected (finding_of self.now.finding) (M.Method.meaning m.now) 0 0 0 (periods self.now.rows.now))) }
     {
-        let mut before = NONE;
-        for (i, row) in self.rows.iter().enumerate() {
-            if rewrites(&self.finding, i as u64, row) {
-                let w = weigh(m, row);
-                if !shares(m, before, w).fit() {
-                    return false;
-                }
-                before = before.plus(w);
-            }
-        }
-        true
+        self.fit_together(m) || self.each_fits(m)
     }
 }

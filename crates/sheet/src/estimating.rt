@@ -7,7 +7,7 @@ ghost use Rattle.rules.specs.Law.{row_of};
 ghost use Rattle.figures.specs.View.{seen, period_seen, sort_of};
 ghost use Rattle.sheet.specs.Rows.{periods, unread_by};
 
-use crate::laying::{NONE, shares, weigh};
+use crate::laying::alone;
 use crate::relaying::restate;
 use figures::dates::Term;
 use figures::row::{BLANK, Row, Sort};
@@ -36,7 +36,7 @@ pub fn blank(term: Term, sort: Sort) -> Row
 pub fn share_fits<M: Method>(m: &M, row: &Row) -> bool
     ensures { result ≡ shares_fit (with_standing (laid (M.Method.meaning m.now) 0 0 (period_seen row.now)) (period_seen row.now)) }
 {
-    shares(m, NONE, weigh(m, row)).fit()
+    alone(m, row).fit()
 }
 
 /// The unmetered row for a period, with its charge: the method's share for it alone, or zeros where it is late in its run.
@@ -51,5 +51,6 @@ pub fn unread<T: Tariff, M: Method>(tariff: &mut T, m: &M, late: bool, term: Ter
         let charge = charged(tariff, term.last, row.standing);
         return Row { charge, ..row };
     }
-    restate(tariff, m, NONE, &blank(term, Sort::Estimated))
+    let row = blank(term, Sort::Estimated);
+    restate(tariff, m, alone(m, &row), &row)
 }

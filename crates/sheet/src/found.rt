@@ -1,4 +1,8 @@
 // A finding laid over the rows of a sheet.
+ghost use Rattle.std.specs.Prelude.{◌≡◌};
+ghost use Rattle.method.specs.Uses.{finding_of};
+ghost use Rattle.sheet.specs.Rows.{covered};
+
 use figures::row::Row;
 use method::finding::Finding;
 
@@ -8,4 +12,14 @@ use method::finding::Finding;
 pub struct Found<'a> {
     pub finding: Finding,
     pub rows: &'a [Row],
+}
+
+impl<'a> Found<'a> {
+    /// The rows of its span.
+    pub(crate) fn covered(&self) -> &'a [Row]
+        ensures { result.now ≡ covered (finding_of self.now.finding) self.now.rows.now }
+    {
+        let places = self.finding.span.places(self.rows.len());
+        &self.rows[places.start..places.end]
+    }
 }

@@ -2,27 +2,24 @@
 ghost use Rattle.std.specs.Prelude.{◌≡◌, ℕ, ◌+◌, ◌-◌, ◌*◌, ◌/◌, ◌^◌, ◌<◌, ◌≤◌};
 ghost use Rattle.rules.specs.Subject.{days, day_units, peak_units, day_weight, peak_weight};
 ghost use Rattle.rules.specs.Sharing.{whole as whole_of, share as share-of};
-ghost use Rattle.rules.specs.Laid.{rewrites_sort, rewrites as rewrites-row};
+ghost use Rattle.rules.specs.Laid.{rewrites_sort};
 ghost use Rattle.figures.specs.View.{regs, sort_of, period_seen};
-ghost use Rattle.method.specs.Uses.{finding_of, cause_of};
+ghost use Rattle.method.specs.Uses.{cause_of};
 ghost use Rattle.sheet.specs.Rows.{pair_fits};
-ghost use Rattle.sheet.specs.Weighing.{Weighed, Light};
+ghost use Rattle.sheet.specs.Weighing.{Weighed, Light, Whole};
 
 use figures::reported::Kwh;
 use figures::row::{Row, Sort};
 use figures::units::{Register, Registers, Units};
-use method::finding::{Cause, Finding};
+use method::finding::Cause;
 use method::method::Method;
 
-/// Weights of rows, or what is shared by them.
+/// The weights of a row, or its shares.
 #[derive(Clone, Copy)]
 pub(crate) struct Pair {
     pub day: u64,
     pub peak: u64,
 }
-
-/// The weights of no rows.
-pub(crate) const NONE: Pair = Pair { day: 0, peak: 0 };
 
 impl Pair {
     /// Whether both shares keep the limit: a yes or no, since a correction asks this of all its rows before it lays any down.
@@ -44,14 +41,8 @@ impl Pair {
     }
 }
 
-/// Whether a correction rewrites the row at place `i`.
-pub(crate) fn rewrites(f: &Finding, i: u64, row: &Row) -> bool
-    ensures { result ≡ rewrites-row (finding_of f.now) i (period_seen row.now) }
-{
-    f.span.has(i) && rewrites_sort(f.cause, row.sort)
-}
-
-fn rewrites_sort(c: Cause, s: Sort) -> bool
+/// Whether a correction for the cause rewrites the rows of its span that are of this sort.
+pub(crate) fn rewrites_sort(c: Cause, s: Sort) -> bool
     ensures { result ≡ rewrites_sort (cause_of c) (sort_of s) }
 {
     c != Cause::Absent || s == Sort::Estimated
@@ -59,20 +50,10 @@ fn rewrites_sort(c: Cause, s: Sort) -> bool
 
 /// The whole units that rows of this weight get together.
 fn whole(upper: u64, lower: u64, weight: u64) -> u64
-    requires { (1 ≤ lower) × (weight * upper ≤ 1210000000000000000) }
+    requires { (1 ≤ lower) × (weight * upper ≤ 1200000000000000000) }
     ensures { result ≡ whole_of upper lower weight }
 {
     weight * upper / lower
-}
-
-/// The share of a row of this weight, after rows that weigh `before` together.
-fn share(upper: u64, lower: u64, before: u64, weight: u64) -> u64
-    requires least { 1 ≤ lower }
-    requires sum { before + weight ≤ 121000000000 }
-    requires product { (before + weight) * upper ≤ 1210000000000000000 }
-    ensures { result ≡ share-of upper lower before weight }
-{
-    whole(upper, lower, before + weight) - whole(upper, lower, before)
 }
 
 /// The weights of a row.
@@ -88,17 +69,60 @@ pub(crate) fn weigh<M: Method>(m: &M, row: &Row) -> Pair
     }
 }
 
-/// The shares of a row of weights `w`, after rows that weigh `before` together.
-pub(crate) fn shares<M: Method>(m: &M, before: Pair, w: Pair) -> Pair
-    requires before { Weighed (M.Method.meaning m.now) 120 before.day before.peak }
-    requires light { Light (M.Method.meaning m.now) w.day w.peak }
-    ensures day { result.day ≡ share-of ((M.Method.meaning m.now).upper day_units) (M.Method.meaning m.now).lower before.day w.day }
-    ensures peak { result.peak ≡ share-of ((M.Method.meaning m.now).upper peak_units) (M.Method.meaning m.now).lower before.peak w.peak }
+/// The whole units that rows of these weights get together.
+pub(crate) fn wholes<M: Method>(m: &M, w: Pair) -> Pair
+    requires { Weighed (M.Method.meaning m.now) 120 w.day w.peak }
+    ensures day { result.day ≡ whole_of ((M.Method.meaning m.now).upper day_units) (M.Method.meaning m.now).lower w.day }
+    ensures peak { result.peak ≡ whole_of ((M.Method.meaning m.now).upper peak_units) (M.Method.meaning m.now).lower w.peak }
 {
     let lower = m.lower();
-    let day = share(m.upper(Register::Day), lower, before.day, w.day);
-    let peak = share(m.upper(Register::Peak), lower, before.peak, w.peak);
-    Pair { day, peak }
+    Pair {
+        day: whole(m.upper(Register::Day), lower, w.day),
+        peak: whole(m.upper(Register::Peak), lower, w.peak),
+    }
+}
+
+/// The rows that a method has shared over so far: what they weigh, and the whole units that they get together.
+#[derive(Clone, Copy)]
+pub(crate) struct Sharing {
+    pub weights: Pair,
+    pub wholes: Pair,
+}
+
+/// No rows.
+pub(crate) const NONE: Sharing = Sharing {
+    weights: Pair { day: 0, peak: 0 },
+    wholes: Pair { day: 0, peak: 0 },
+};
+
+impl Sharing {
+    /// The shares of one row more.
+    pub(crate) fn next<M: Method>(&mut self, m: &M, row: &Row) -> Pair
+        requires before { Weighed (M.Method.meaning m.now) 119 self.old.weights.day self.old.weights.peak }
+        requires wholes { Whole (M.Method.meaning m.now) self.old }
+        ensures day { result.day ≡ share-of ((M.Method.meaning m.now).upper day_units) (M.Method.meaning m.now).lower self.old.weights.day (day_weight (M.Method.meaning m.now) (period_seen row.now)) }
+        ensures peak { result.peak ≡ share-of ((M.Method.meaning m.now).upper peak_units) (M.Method.meaning m.now).lower self.old.weights.peak (peak_weight (M.Method.meaning m.now) (period_seen row.now)) }
+        ensures day_more { self.new.weights.day ≡ self.old.weights.day + day_weight (M.Method.meaning m.now) (period_seen row.now) }
+        ensures peak_more { self.new.weights.peak ≡ self.old.weights.peak + peak_weight (M.Method.meaning m.now) (period_seen row.now) }
+        ensures light { Light (M.Method.meaning m.now) (day_weight (M.Method.meaning m.now) (period_seen row.now)) (peak_weight (M.Method.meaning m.now) (period_seen row.now)) }
+        ensures wholes { Whole (M.Method.meaning m.now) self.new }
+    {
+        let before = self.wholes;
+        self.weights = self.weights.plus(weigh(m, row));
+        self.wholes = wholes(m, self.weights);
+        Pair {
+            day: self.wholes.day - before.day,
+            peak: self.wholes.peak - before.peak,
+        }
+    }
+}
+
+/// The shares of a row alone.
+pub(crate) fn alone<M: Method>(m: &M, row: &Row) -> Pair
+    ensures day { result.day ≡ share-of ((M.Method.meaning m.now).upper day_units) (M.Method.meaning m.now).lower 0 (day_weight (M.Method.meaning m.now) (period_seen row.now)) }
+    ensures peak { result.peak ≡ share-of ((M.Method.meaning m.now).upper peak_units) (M.Method.meaning m.now).lower 0 (peak_weight (M.Method.meaning m.now) (period_seen row.now)) }
+{
+    wholes(m, weigh(m, row))
 }
 
 /// What the method lays down for a row, its shares given.

@@ -1,6 +1,6 @@
 // Whether the span of a finding is right: whether it is billed, the sorts of its rows, and the rule of its cause.
-ghost use Rattle.std.specs.Prelude.{◌≡◌, ◌+◌, Bool};
-ghost use Rattle.rules.specs.Subject.{Period, is_read};
+ghost use Rattle.std.specs.Prelude.{◌≡◌, ◌+◌, ◌-◌, ◌&&◌, Bool, nat_lt};
+ghost use Rattle.rules.specs.Subject.{Period, is_read, unmetered};
 ghost use Rattle.rules.specs.Questions.{of_sort, row_is, has_day, span_right as rule-kept, sorts_right as sorts-are-right, every};
 ghost use Rattle.figures.specs.View.{sort_of};
 ghost use Rattle.method.specs.Uses.{finding_of, cause_of, side_of};
@@ -29,21 +29,21 @@ impl<'a> Found<'a> {
     fn all_of_sort(&self) -> bool
         ensures { result ≡ every (sort_fits (finding_of self.now.finding)) 0 (periods self.now.rows.now) }
     {
-        let Finding { cause, span, .. } = self.finding;
-        self.rows
-            .iter()
-            .enumerate()
-            .all(|(i, row)| !span.has(i as u64) || of_sort(cause, row.sort))
+        let cause = self.finding.cause;
+        self.covered().iter().all(|row| of_sort(cause, row.sort))
+    }
+
+    fn unread_before(&self) -> bool
+        ensures { result ≡ (nat_lt 0 self.now.finding.span.first && row_is unmetered (periods self.now.rows.now) (self.now.finding.span.first - 1)) }
+    {
+        let first = self.finding.span.first;
+        first > 0 && self.unread_at(first - 1)
     }
 
     fn none_left_out(&self) -> bool
         ensures { result ≡ every (not_left_out (finding_of self.now.finding)) 0 (periods self.now.rows.now) }
     {
-        let span = self.finding.span;
-        self.rows
-            .iter()
-            .enumerate()
-            .all(|(i, row)| !span.adjoins(i as u64) || row.is_read())
+        !self.unread_before() && !self.unread_at(self.after())
     }
 
     /// Whether the rows are of the cause's sort, and for an absent reading no unmetered row that adjoins is left out.
@@ -68,6 +68,15 @@ impl<'a> Found<'a> {
         ensures { result ≡ row_is (λ p. is_read p.sort) (periods self.now.rows.now) row }
     {
         self.rows.get(row as usize).is_some_and(|row| row.is_read())
+    }
+
+    /// Whether the row is there and is not read.
+    fn unread_at(&self, row: u64) -> bool
+        ensures { result ≡ row_is unmetered (periods self.now.rows.now) row }
+    {
+        self.rows
+            .get(row as usize)
+            .is_some_and(|row| !row.is_read())
     }
 
     /// The row just after the span, or one beyond the sheet where that is.

@@ -1,17 +1,23 @@
-use Rattle.std.proofs.Common.{rules, tests, ◌∙◌}
-use Rattle.std.proofs.lemmas.Iterator.{YieldsList-from_slice}
-use Rattle.std.proofs.lemmas.Iterator.Consumers.{YieldsList-from_enumerate}
-use Rattle.std.proofs.lemmas.Iterator.Search.{all_from_yields_List}
+use Rattle.std.proofs.Common.{◌+◌, not, ◌&&◌, sym, ap, ◌∙◌}
+use Rattle.rules.specs.Subject.{unmetered}
+use Rattle.rules.specs.Questions.{row_is}
 use Rattle.method.specs.Uses.{finding_of}
-use Rattle.figures.specs.View.{period_seen}
-use Rattle.sheet.specs.Rows.{not_left_out}
-use Rattle.sheet.proofs.Listed.{every_listed}
+use Rattle.sheet.specs.Rows.{periods}
+use Rattle.sheet.proofs.Tested.{left_out_tested}
 use Rattle.sheet.proofs.found.Found.none_left_out.Goals as goal
 
-pub returns : goal.returns
-returns c =
+pub returns-then-not-unread_before : goal.returns-then-not-unread_before
+returns-then-not-unread_before c =
     let f = finding_of c.args.self.now.finding in
-    let rows = c.args.self.now.rows.now in
-    all_from_yields_List (λ e. not_left_out f e.0 (period_seen e.1)) _ _ _ c.all.ensures.ran
-    (YieldsList-from_enumerate (YieldsList-from_slice rows cc) (cc)) (λ x b q k. search (rules, tests))
-    ∙ every_listed (not_left_out f) 0 rows
+    let ps = periods c.args.self.now.rows.now in
+    ap not (c.unread_at.ensures ∙ c.after.ensures unmetered)
+    ∙ ap (λ b. not b && not (row_is unmetered ps (f.last + 1))) (sym c.if-not-unread_before.true ∙ c.unread_before.ensures)
+    ∙ sym (left_out_tested f ps)
+
+pub returns-else-not-unread_before : goal.returns-else-not-unread_before
+returns-else-not-unread_before c =
+    let f = finding_of c.args.self.now.finding in
+    let ps = periods c.args.self.now.rows.now in
+    ap not c.if-not-unread_before.false
+    ∙ ap (λ b. not b && not (row_is unmetered ps (f.last + 1))) (sym c.if-not-unread_before.false ∙ c.unread_before.ensures)
+    ∙ sym (left_out_tested f ps)
