@@ -5,9 +5,9 @@
  * event a line. A page comes out: an answer to each line, then the account's journal, then its balance and amount due.
  * docs/FORMATS.md has the lines of both.
  *
- * Link with the archive crates/office/out/liboffice.a, which `rt lib` makes in crates/office. It needs no other library
- * and takes no memory but the stack's (about 64 kilobytes), keeps nothing between calls, and may be called from several
- * threads at a time on pages of their own.
+ * Link with the archive crates/office/out/liboffice.a, which `rt lib` makes in crates/office. It needs no library but C's,
+ * takes no memory but about 40 kilobytes of the stack, keeps nothing between calls, and may be called from several
+ * threads at a time, each with a page of its own.
  */
 #ifndef MAQDYLEZ_H
 #define MAQDYLEZ_H

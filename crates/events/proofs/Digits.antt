@@ -30,11 +30,12 @@ onto_small (suc k) n zero acc less short =
     absurd (elim (n / 10 == 0) as (λ b. length (cond b (g ∷ acc) (digits_onto k 10 false (n / 10) (g ∷ acc))) ≤ length acc + 0 → ⊥) [ true ↦ λ s. omega arith | false ↦ λ s. omega arith ] short)
 onto_small (suc k) n (suc j) acc less short = so (onto_small k (n / 10) j (digit_glyph false (n % 10) ∷ acc) (omega arith)) (n / 10 == 0) refl short
   where
-  g : ℕ
-  g = digit_glyph false (n % 10)
-  so : (length (digits_onto k 10 false (n / 10) (g ∷ acc)) ≤ length (g ∷ acc) + j → n / 10 < 10 ^ j) → (b : Bool) → (n / 10 == 0) ≡ b → length (cond b (g ∷ acc) (digits_onto k 10 false (n / 10) (g ∷ acc))) ≤ length acc + suc j → n < 10 ^ suc j
-  so later true is s = let none : n / 10 ≡ 0 = eqb-true _ _ is in let one : 1 ≤ 10 ^ j = one-le-pow j 10 (lit< tt) in rw (pow-suc 10 j) (omega arith)
-  so later false is s = let small : n / 10 < 10 ^ j = later (omega arith) in rw (pow-suc 10 j) (omega arith)
+    g : ℕ
+    g = digit_glyph false (n % 10)
+
+    so : (length (digits_onto k 10 false (n / 10) (g ∷ acc)) ≤ length (g ∷ acc) + j → n / 10 < 10 ^ j) → (b : Bool) → (n / 10 == 0) ≡ b → length (cond b (g ∷ acc) (digits_onto k 10 false (n / 10) (g ∷ acc))) ≤ length acc + suc j → n < 10 ^ suc j
+    so later true is s = let none : n / 10 ≡ 0 = eqb-true _ _ is in let one : 1 ≤ 10 ^ j = one-le-pow j 10 (lit< tt) in rw (pow-suc 10 j) (omega arith)
+    so later false is s = let small : n / 10 < 10 ^ j = later (omega arith) in rw (pow-suc 10 j) (omega arith)
 
 pub short_small : (n : ℕ) → is_short (decimal n) ≡ true → n < 10 ^ 13
 unfolding digits

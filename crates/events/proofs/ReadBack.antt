@@ -193,9 +193,16 @@ parts_printed [] gs w v = v
 parts_printed (f ∷ fs) gs w v = (w.0, parts_printed fs gs w.1 v)
 
 finding_printed : (f : Finding) → AllShort (finding_fields f) → AllPrinted (finding_fields f)
-finding_printed f s =
-    (letter_printed _ (cause_printed f.cause), (letter_printed _ (side_printed f.side), (figure_printed f.notice s.1.1.0,
-    (letter_printed _ (known_printed f.ascertained), (figure_printed f.span.first s.1.1.1.1.0, (figure_printed f.span.last s.1.1.1.1.1.0, tt))))))
+finding_printed f s = (
+  letter_printed _ (cause_printed f.cause),
+  (
+    letter_printed _ (side_printed f.side),
+    (
+      figure_printed f.notice s.1.1.0,
+      (letter_printed _ (known_printed f.ascertained), (figure_printed f.span.first s.1.1.1.1.0, (figure_printed f.span.last s.1.1.1.1.1.0, tt))),
+    ),
+  ),
+)
 
 basis_printed : (b : Basis) → AllShort (basis_fields b) → AllPrinted (basis_fields b)
 basis_printed (basis.TestMeter shown tested) s =

@@ -37,9 +37,9 @@ named_so : {X : Type 0} (letter : X → ℕ) (table : List (ℕ × X)) → Agree
 named_so letter [] a c x e = cc
 named_so {X} letter (t ∷ ts) a c x e = so (named_so letter ts a.1 c x) (eqb c t.0) refl e
   where
-  so : (named ts c ≡ Some x → c ≡ letter x) → (b : Bool) → eqb c t.0 ≡ b → cond b (Some t.1) (named ts c) ≡ Some x → c ≡ letter x
-  so later true is e = let same : t.1 ≡ x = cc in eqb-true c t.0 is ∙ a.0 ∙ ap letter same
-  so later false is e = later e
+    so : (named ts c ≡ Some x → c ≡ letter x) → (b : Bool) → eqb c t.0 ≡ b → cond b (Some t.1) (named ts c) ≡ Some x → c ≡ letter x
+    so later true is e = let same : t.1 ≡ x = cc in eqb-true c t.0 is ∙ a.0 ∙ ap letter same
+    so later false is e = later e
 
 pub letter_writes : {X : Type 0} (letter : X → ℕ) (table : List (ℕ × X)) → Agrees letter table → Writes (one_of table) (λ x. letter x ∷ [])
 letter_writes letter table a [] x e = cc
@@ -65,9 +65,9 @@ pub got : {A B : Type 0} (held : List ℕ → Option A) (fs : List (ℕ × List 
 got held [] next b e = cc
 got {A} {B} held (f ∷ fs) next b e = so (held f.1) refl e
   where
-  so : (o : Option A) → held f.1 ≡ o → on (elim (ok_or o (Field f.0)) [ Ok x ↦ Ok (x, fs) | Err e ↦ Err e ]) next ≡ Ok b → Got held (f ∷ fs) next b
-  so (Some x) has e = record { x = x; first = f; rest = fs; is = refl; has = has; goes = e }
-  so None has e = cc
+    so : (o : Option A) → held f.1 ≡ o → on (elim (ok_or o (Field f.0)) [ Ok x ↦ Ok (x, fs) | Err e ↦ Err e ]) next ≡ Ok b → Got held (f ∷ fs) next b
+    so (Some x) has e = record { x = x; first = f; rest = fs; is = refl; has = has; goes = e }
+    so None has e = cc
 
 -- nothing was read
 pub none_read : (fs : List (ℕ × List ℕ)) → Spelled fs [] fs
@@ -102,9 +102,9 @@ known_written = letter_writes known_letter knowns (refl, (refl, tt))
 unit_writes : {U : Type 0} (unit : ℕ → U) (size : U → ℕ) → ((n : ℕ) → size (unit n) ≡ n) → Writes (λ f. option_map unit (figure_of f)) (λ u. decimal (size u))
 unit_writes {U} unit size back f u e = so (figure_of f) refl e
   where
-  so : (o : Option ℕ) → figure_of f ≡ o → option_map unit o ≡ Some u → (f ≡ decimal (size u)) × (is_short f ≡ true)
-  so (Some n) is e = let h = figure_written f n is in let same : unit n ≡ u = cc in (h.0 ∙ ap decimal (sym (back n) ∙ ap size same), h.1)
-  so None is e = cc
+    so : (o : Option ℕ) → figure_of f ≡ o → option_map unit o ≡ Some u → (f ≡ decimal (size u)) × (is_short f ≡ true)
+    so (Some n) is e = let h = figure_written f n is in let same : unit n ≡ u = cc in (h.0 ∙ ap decimal (sym (back n) ∙ ap size same), h.1)
+    so None is e = cc
 
 pub finding_spelled : (fs : List (ℕ × List ℕ)) (f : Finding) (left : List (ℕ × List ℕ)) → finding_in fs ≡ Ok (f, left) → Spelled fs (finding_fields f) left
 finding_spelled fs f left e =
@@ -189,9 +189,9 @@ pub unused_spelled : (fs : List (ℕ × List ℕ)) → unused fs ≡ Ok tt → S
 unused_spelled [] e = none_read []
 unused_spelled (f ∷ fs) e = so (unused_spelled fs) (unused_of f.1) refl e
   where
-  so : (unused fs ≡ Ok tt → Spelled fs (replicate (length fs) (codes "0")) []) → (o : Option Unused) → unused_of f.1 ≡ o → result_and (ok_or o (Field f.0)) (unused fs) ≡ Ok tt → Spelled (f ∷ fs) (replicate (length (f ∷ fs)) (codes "0")) []
-  so later (Some u) is e =
-      let one = unused_written f.1 u is in
-      let s = later e in
-      record { text = ap (λ t. t ∷ map (λ f. f.1) fs) one.0 ∙ ap (λ ts. codes "0" ∷ ts) s.text; short = s.short }
-  so later None is e = cc
+    so : (unused fs ≡ Ok tt → Spelled fs (replicate (length fs) (codes "0")) []) → (o : Option Unused) → unused_of f.1 ≡ o → result_and (ok_or o (Field f.0)) (unused fs) ≡ Ok tt → Spelled (f ∷ fs) (replicate (length (f ∷ fs)) (codes "0")) []
+    so later (Some u) is e =
+        let one = unused_written f.1 u is in
+        let s = later e in
+        record { text = ap (λ t. t ∷ map (λ f. f.1) fs) one.0 ∙ ap (λ ts. codes "0" ∷ ts) s.text; short = s.short }
+    so later None is e = cc

@@ -129,9 +129,9 @@ form_written p_line fs e count is =
 event_in_so : (k : Form) (fs : List (ℕ × List ℕ)) (e : Event) → event_in k fs ≡ Ok e → FormWritten k fs e
 event_in_so k fs e is = so (form_written k fs e) (eqb (length fs) (fields_after k)) refl is
   where
-  so : (length fs ≡ fields_after k → event k fs ≡ Ok e → FormWritten k fs e) → (b : Bool) → eqb (length fs) (fields_after k) ≡ b → cond b (event k fs) (Err Shape) ≡ Ok e → FormWritten k fs e
-  so written true count is = written (eqb-true _ _ count) is
-  so written false count is = cc
+    so : (length fs ≡ fields_after k → event k fs ≡ Ok e → FormWritten k fs e) → (b : Bool) → eqb (length fs) (fields_after k) ≡ b → cond b (event k fs) (Err Shape) ≡ Ok e → FormWritten k fs e
+    so written true count is = written (eqb-true _ _ count) is
+    so written false count is = cc
 
 form_letters : Writes form_of (λ k. letter_of k ∷ [])
 form_letters = letter_writes letter_of forms (refl, (refl, (refl, (refl, (refl, (refl, tt))))))
@@ -145,19 +145,20 @@ fields_written : (gs : List (List ℕ)) (e : Event) → event_from gs ≡ Ok e �
 fields_written [] e is = cc
 fields_written (g ∷ gs) e is = so (form_of g) refl is
   where
-  so : (o : Option Form) → form_of g ≡ o → event_with o (placed 3 gs) ≡ Ok e → (g ∷ gs ≡ fields_of e) × (list_all is_short (g ∷ gs) ≡ true)
-  so (Some k) named is =
-      let letter = form_letters g k named in
-      let w = event_in_so k (placed 3 gs) e is in
-      (ap (λ l. l ∷ gs) letter.0 ∙ ap (λ ts. (letter_of k ∷ []) ∷ ts) (sym (texts_placed 3 gs)) ∙ w.all,
-       and_from _ _ letter.1 (ap (list_all is_short) (sym (texts_placed 3 gs)) ∙ w.short))
-  so None named is = cc
+    so : (o : Option Form) → form_of g ≡ o → event_with o (placed 3 gs) ≡ Ok e → (g ∷ gs ≡ fields_of e) × (list_all is_short (g ∷ gs) ≡ true)
+    so (Some k) named is =
+        let letter = form_letters g k named in
+        let w = event_in_so k (placed 3 gs) e is in (
+          ap (λ l. l ∷ gs) letter.0 ∙ ap (λ ts. (letter_of k ∷ []) ∷ ts) (sym (texts_placed 3 gs)) ∙ w.all,
+          and_from _ _ letter.1 (ap (list_all is_short) (sym (texts_placed 3 gs)) ∙ w.short),
+        )
+    so None named is = cc
 
 pub line_written : (line : List ℕ) (e : Event) → event_of line ≡ Ok e → (line ≡ line_of e) × (is_carried e ≡ true)
 line_written line e is = so (ltb 140 (length line)) is
   where
-  so : (b : Bool) → cond b (Err TooLong) (event_from (fields line)) ≡ Ok e → (line ≡ line_of e) × (is_carried e ≡ true)
-  so true is = cc
-  so false is =
-      let w = fields_written (fields line) e is in
-      (sym (join_with_byte-slice_split 44 line) ∙ ap (join_with_byte 44) w.0, ap (list_all is_short) (sym w.0) ∙ w.1)
+    so : (b : Bool) → cond b (Err TooLong) (event_from (fields line)) ≡ Ok e → (line ≡ line_of e) × (is_carried e ≡ true)
+    so true is = cc
+    so false is =
+        let w = fields_written (fields line) e is in
+        (sym (join_with_byte-slice_split 44 line) ∙ ap (join_with_byte 44) w.0, ap (list_all is_short) (sym w.0) ∙ w.1)

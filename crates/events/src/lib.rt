@@ -1,7 +1,8 @@
-// The events of an account, read from a text: lines, their fields, and the figures and letters that stand in them.
+// The events of an account, read from a text and written as lines: fields, and the figures and letters that stand in them.
 #![tactic(auto)]
 
 mod cell;
+mod cells;
 pub mod event;
 pub mod fault;
 mod field;

@@ -1,10 +1,11 @@
 // Events read from lines. All is inlined where a line is served, so that an event, which may be large, is not stored on the way;
 // only the parts of an estimate and of a correction are read by calls, since inlining ends at some size.
-ghost use Rattle.std.specs.Prelude.{◌≡◌, ◌≤◌, length};
+ghost use Rattle.std.specs.Prelude.{◌≡◌, ◌≤◌, length, IfOk};
 ghost use Rattle.events.specs.declared.event.Event.TheVariants.{Take, HandBack, Bill, Estimate, Correct, Pay};
 ghost use Rattle.events.specs.Lines.{fields as fields_of, placed};
-ghost use Rattle.events.specs.Events.{t_line, h_line, b_line, e_line, c_line, p_line, event, event_in, event_of};
+ghost use Rattle.events.specs.Events.{t_line, h_line, b_line, e_line, c_line, p_line, event, event_in, event_from, event_of};
 ghost use Rattle.events.specs.Corrections.{finding_in, basis_in};
+ghost use Rattle.events.specs.RoundTrip.{WritesAs};
 ghost use Rattle.events.specs.FieldsLeft.{fields_left, with_left, made, Handed};
 
 use crate::event::{Basis, Event};
@@ -207,14 +208,12 @@ fn read_pay(rest: &[u8]) -> Result<Event, ReaderFault>
     Ok(Event::Pay { hold, cents })
 }
 
-/// The event that a line carries: its first two bytes choose the form, and the rest is its fields.
+/// The event of a line that is short enough: its first two bytes choose the form, and the rest is its fields.
 #[inline(always)]
-pub fn read_event(line: &[u8]) -> Result<Event, ReaderFault>
-    ensures value { result ≡ event_of line.now }
+fn read_form(line: &[u8]) -> Result<Event, ReaderFault>
+    requires { length line.now ≤ 140 }
+    ensures { result ≡ event_from (fields_of line.now) }
 {
-    if line.len() > 140 {
-        return Err(ReaderFault::TooLong);
-    }
     match line {
         [b'T', b',', rest @ ..] => read_take(rest),
         [b'H', b',', rest @ ..] => read_hand_back(rest),
@@ -224,4 +223,16 @@ pub fn read_event(line: &[u8]) -> Result<Event, ReaderFault>
         [b'P', b',', rest @ ..] => read_pay(rest),
         _ => Err(ReaderFault::Shape),
     }
+}
+
+/// The event that a line carries. The line is the one that is written for that event.
+#[inline(always)]
+pub fn read_event(line: &[u8]) -> Result<Event, ReaderFault>
+    ensures value { result ≡ event_of line.now }
+    ensures written { IfOk result (λ event. WritesAs line.now event) }
+{
+    if line.len() > 140 {
+        return Err(ReaderFault::TooLong);
+    }
+    read_form(line)
 }

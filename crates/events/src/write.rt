@@ -3,14 +3,15 @@ ghost use Rattle.std.specs.Prelude.{◌≡◌, ◌∷◌, [], map, length, take,
 ghost use Rattle.std.specs.List.{list_all};
 ghost use Rattle.page.specs.Pages.{Wrote, fitted, padded};
 ghost use Rattle.page.specs.Answered.{cleared};
-ghost use Rattle.events.specs.Written.{is_short, finding_fields, basis_fields, fields_of};
+ghost use Rattle.events.specs.Written.{is_short, fields_of};
 ghost use Rattle.events.specs.declared.unwritten.Unwritten.TheVariants.{NoLine};
+ghost use Rattle.events.specs.declared.event.Event.TheVariants.{Correct};
 ghost use Rattle.events.specs.RoundTrip.{ReadsAs, NeverRead};
 ghost use Rattle.events.specs.Writing.{text_of, line_end, Written};
 
-use crate::cell::{Cell, UNUSED};
+use crate::cell::Cell;
+use crate::cells::{basis_fields, bill_fields, estimate_fields, finding_fields};
 use crate::event::{Basis, Event};
-use crate::letters::{cause_letter, known_letter, side_letter};
 use crate::unwritten::Unwritten;
 use method::finding::Finding;
 use page::{Full, Page};
@@ -53,54 +54,22 @@ fn write_fields(letter: u8, fields: &[Cell], page: &mut [u8]) -> Result<usize, U
     Ok(fill_page(letter, fields, page)?)
 }
 
-/// What a correction rests on.
-fn finding_fields(finding: Finding) -> [Cell; 6]
-    ensures { map text_of result ≡ finding_fields finding }
+/// A correction's fields are those of its finding and of its method.
+fn write_correction(
+    hold: u64,
+    finding: Finding,
+    basis: Basis,
+    page: &mut [u8],
+) -> Result<usize, Unwritten>
+    ensures { Written (fields_of (Correct hold finding basis)) page.old (cleared result page.new) result }
 {
-    [
-        Cell::Letter(cause_letter(finding.cause)),
-        Cell::Letter(side_letter(finding.side)),
-        Cell::figure(finding.notice),
-        Cell::Letter(known_letter(finding.ascertained)),
-        Cell::figure(finding.span.first),
-        Cell::figure(finding.span.last),
-    ]
-}
-
-/// A method's letter, and its five fields.
-fn basis_fields(basis: Basis) -> [Cell; 6]
-    ensures { map text_of result ≡ basis_fields basis }
-{
-    match basis {
-        Basis::TestMeter { shown, tested } => [
-            Cell::Letter(b'M'),
-            Cell::figure(shown),
-            Cell::figure(tested),
-            UNUSED,
-            UNUSED,
-            UNUSED,
-        ],
-        Basis::PreviousThree { from } => {
-            [Cell::Letter(b'P'), Cell::figure(from), UNUSED, UNUSED, UNUSED, UNUSED]
-        }
-        Basis::LaterThree { from } => {
-            [Cell::Letter(b'L'), Cell::figure(from), UNUSED, UNUSED, UNUSED, UNUSED]
-        }
-        Basis::ContractDemand {
-            kva,
-            utilization,
-            power,
-            load,
-            peak,
-        } => [
-            Cell::Letter(b'D'),
-            Cell::figure(kva),
-            Cell::figure(utilization),
-            Cell::figure(power),
-            Cell::figure(load),
-            Cell::figure(peak),
-        ],
-    }
+    let [cause, side, notice, known, first, last] = finding_fields(finding);
+    let [method, a, b, c, d, e] = basis_fields(basis);
+    let hold = Cell::figure(hold);
+    let fields = [
+        hold, cause, side, notice, known, first, last, method, a, b, c, d, e,
+    ];
+    write_fields(b'C', &fields, page)
 }
 
 /// How many bytes an event's line has; a refused one leaves anything on the page.
@@ -116,45 +85,23 @@ fn write_line(event: Event, page: &mut [u8]) -> Result<usize, Unwritten>
             hold,
             last,
             reading,
-        } => {
-            let fields = [
-                Cell::figure(hold),
-                Cell::figure(last),
-                Cell::figure(reading.day),
-                Cell::figure(reading.peak),
-                Cell::figure(reading.demand),
-            ];
-            write_fields(b'B', &fields, page)
-        }
+        } => write_fields(b'B', &bill_fields(hold, last, reading), page),
         Event::Estimate {
             hold,
             last,
             figure,
             peak,
             demand,
-        } => {
-            let fields = [
-                Cell::figure(hold),
-                Cell::figure(last),
-                Cell::figure(figure),
-                Cell::figure(peak),
-                Cell::figure(demand),
-            ];
-            write_fields(b'E', &fields, page)
-        }
+        } => write_fields(
+            b'E',
+            &estimate_fields(hold, last, figure, peak, demand),
+            page,
+        ),
         Event::Correct {
             hold,
             finding,
             basis,
-        } => {
-            let [cause, side, notice, known, first, last] = finding_fields(finding);
-            let [method, a, b, c, d, e] = basis_fields(basis);
-            let fields = [
-                Cell::figure(hold),
-                cause, side, notice, known, first, last, method, a, b, c, d, e,
-            ];
-            write_fields(b'C', &fields, page)
-        }
+        } => write_correction(hold, finding, basis, page),
         Event::Pay { hold, cents } => {
             write_fields(b'P', &[Cell::figure(hold), Cell::figure(cents)], page)
         }
