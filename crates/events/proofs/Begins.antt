@@ -1,9 +1,9 @@
 -- A line by its first two bytes, and by its fields.
-use Rattle.std.proofs.Common.{◌≡◌, ℕ, ◌≤◌, Bool, true, false, cond, eqb, ltb, List, [], ◌∷◌, length, get_or, drop, Some, None, Option, Err, sym, refl, ap, ◌∙◌, arith, le-ltb, eqb-true, ne_eqb}
+use Rattle.std.proofs.Common.{◌≡◌, ℕ, Bool, true, false, cond, eqb, ltb, List, [], ◌∷◌, length, get_or, drop, Some, None, Option, Err, sym, refl, ap, ◌∙◌, arith, le-ltb, eqb-true, ne_eqb}
 use Rattle.std.specs.List.{onto_first}
 use Rattle.events.specs.declared.fault.ReaderFault.TheVariants.{Shape}
 use Rattle.events.specs.Lines.{fields, placed}
-use Rattle.events.specs.Events.{Form, t_line, h_line, b_line, e_line, c_line, p_line, form_of, event_in, event_with, event_from, event_of}
+use Rattle.events.specs.Events.{Form, t_line, h_line, b_line, e_line, c_line, p_line, form_of, event_in, event_with, event_from}
 
 -- the form of a letter
 abbrev letter_of : ℕ → Option Form

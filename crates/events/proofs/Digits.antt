@@ -1,5 +1,5 @@
 -- Figures in decimal digits, and back. Assumes nothing.
-use Rattle.std.proofs.Common.{rules, ◌≡◌, ℕ, zero, suc, ◌/◌, ◌%◌, ◌+◌, eqb, ◌^◌, ◌<◌, ◌≤◌, Bool, true, false, List, [], ◌∷◌, length, decimal, nat_le, slice_index, not, ne_eqb, ◌||◌, ◌==◌, cond, get_or, Some, None, refl, sym, ap, ◌∙◌, subst, ⊎_elim, arith, ltb, le-leb, le-ltb, lit<}
+use Rattle.std.proofs.Common.{◌≡◌, ℕ, zero, suc, ◌/◌, ◌%◌, ◌+◌, ◌^◌, ◌<◌, ◌≤◌, Bool, true, false, List, [], ◌∷◌, length, decimal, nat_le, slice_index, not, ne_eqb, ◌||◌, ◌==◌, cond, get_or, Some, None, refl, sym, ap, ◌∙◌, subst, ⊎_elim, arith, ltb, le-leb, le-ltb, lit<}
 use Rattle.std.specs.Fmt.{digits, digits_onto, digit_glyph}
 use Rattle.std.specs.List.{All}
 use Rattle.std.specs.Str.{all_ascii_digits}

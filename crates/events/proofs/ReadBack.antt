@@ -1,5 +1,5 @@
 -- A line that is written for an event reads as that event. Assumes nothing.
-use Rattle.std.proofs.Common.{rules, ◌≡◌, ℕ, zero, suc, ◌+◌, ◌<◌, ◌≤◌, Bool, true, false, cond, eqb, ltb, List, [], ◌∷◌, ◌++◌, map, length, decimal, codes, Some, Ok, Err, Option, Result, refl, sym, ap, ◌∙◌, arith, le-ltb, ne_eqb, lit<}
+use Rattle.std.proofs.Common.{◌≡◌, ℕ, zero, suc, ◌+◌, ◌<◌, ◌≤◌, Bool, true, false, eqb, List, [], ◌∷◌, ◌++◌, map, length, decimal, codes, Some, Ok, Err, Option, Result, refl, ap, ◌∙◌, arith, le-ltb, ne_eqb}
 use Rattle.std.specs.List.{All, list_all, join_with_byte, onto_first}
 use Rattle.std.specs.Option.{ok_or, option_map}
 use Rattle.std.specs.Result.{result_and}

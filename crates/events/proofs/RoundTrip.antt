@@ -1,5 +1,5 @@
 -- What an answer of the writer says of reading. Assumes nothing.
-use Rattle.std.proofs.Common.{rules, ◌≡◌, ℕ, Bool, true, false, cond, List, [], ◌∷◌, ◌++◌, length, take, replicate, Ok, Err, Result, nat_le, refl, sym, ap, ◌∙◌, subst}
+use Rattle.std.proofs.Common.{◌≡◌, ℕ, Bool, true, false, cond, List, [], ◌∷◌, ◌++◌, length, take, Ok, Err, Result, refl, sym, ap, ◌∙◌, subst}
 use Rattle.std.specs.Result.{IfOk, IfErr}
 use Rattle.std.proofs.Math.Seq.{take-append_seam}
 use Rattle.page.specs.Answered.{cleared}
@@ -9,7 +9,7 @@ use Rattle.events.specs.declared.unwritten.Unwritten.{Unwritten}
 use Rattle.events.specs.declared.unwritten.Unwritten.TheVariants.{NoLine, Page}
 use Rattle.events.specs.Events.{event_of}
 use Rattle.events.specs.Written.{fields_of, line_of, is_carried}
-use Rattle.events.specs.Writing.{line_end, Written}
+use Rattle.events.specs.Writing.{Written}
 use Rattle.events.specs.RoundTrip.{ReadsAs, NeverRead, WritesAs}
 use Rattle.events.proofs.ReadBack.{reads_as}
 use Rattle.events.proofs.Written.{line_written}

@@ -1,10 +1,10 @@
 -- Fields that were read are those that are written for what was read. Assumes nothing.
-use Rattle.std.proofs.Common.{rules, ◌≡◌, ℕ, ◌+◌, Bool, true, false, cond, eqb, ◌&&◌, List, [], ◌∷◌, ◌++◌, map, length, get_or, replicate, decimal, codes, Some, None, Ok, Err, Option, Result, refl, sym, ap, ◌∙◌, subst, arith, ne_eqb}
+use Rattle.std.proofs.Common.{◌≡◌, ℕ, Bool, true, false, cond, eqb, List, [], ◌∷◌, ◌++◌, map, length, replicate, decimal, codes, Some, None, Ok, Err, Option, Result, refl, sym, ap, ◌∙◌, subst, arith, ne_eqb}
 use Rattle.std.specs.List.{list_all}
 use Rattle.std.specs.Option.{ok_or, option_map}
 use Rattle.std.specs.Result.{result_and}
 use Rattle.std.proofs.lemmas.Bool.{eqb-true, and_from}
-use Rattle.std.proofs.lemmas.List.{map-append, append_assoc}
+use Rattle.std.proofs.lemmas.List.{append_assoc}
 use Rattle.std.proofs.lemmas.List.Folds.{list_all-append}
 use Rattle.method.specs.declared.finding.Finding.{Finding}
 use Rattle.events.specs.declared.event.Basis.{Basis}
@@ -18,7 +18,7 @@ use Rattle.events.specs.Figures.{figure_of, kwh_of, kva_of, cents_of}
 use Rattle.events.specs.Letters.{named, one_of, causes, sides, knowns, methods, cause_of, side_of, known_of, method_of, unused_of}
 use Rattle.events.specs.Reads.{on, read, unused}
 use Rattle.events.specs.Corrections.{finding_in, basis_by, basis_in}
-use Rattle.events.specs.Written.{is_short, cause_letter, side_letter, known_letter, finding_fields, basis_fields}
+use Rattle.events.specs.Written.{is_short, cause_letter, side_letter, known_letter, finding_fields}
 use Rattle.events.proofs.Digits.{figure_written}
 
 pub ok_inj : {A : Type 0} (x y : A) → ◌≡◌ {A = Result A ReaderFault} (Ok x) (Ok y) → x ≡ y

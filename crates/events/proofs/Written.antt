@@ -1,5 +1,5 @@
 -- A line that reads as an event is the line that is written for it. Assumes nothing.
-use Rattle.std.proofs.Common.{rules, ◌≡◌, ℕ, ◌+◌, Bool, true, false, cond, eqb, ltb, List, [], ◌∷◌, ◌++◌, map, length, replicate, decimal, codes, Some, None, Ok, Err, Option, Result, refl, sym, ap, ◌∙◌, subst, arith}
+use Rattle.std.proofs.Common.{◌≡◌, ℕ, ◌+◌, Bool, true, false, cond, eqb, ltb, List, [], ◌∷◌, ◌++◌, map, length, replicate, decimal, codes, Some, None, Ok, Err, Option, Result, refl, sym, ap, ◌∙◌, subst, arith}
 use Rattle.std.specs.List.{list_all, join_with_byte}
 use Rattle.std.specs.Result.{result_and}
 use Rattle.std.proofs.lemmas.Bool.{eqb-true, and_from}
@@ -7,7 +7,7 @@ use Rattle.std.proofs.lemmas.List.{append-nil, length-append, length-map, length
 use Rattle.std.proofs.lemmas.List.Splits.{join_with_byte-slice_split}
 use Rattle.method.specs.declared.finding.Finding.{Finding}
 use Rattle.events.specs.declared.event.Event.{Event}
-use Rattle.events.specs.declared.event.Event.TheVariants.{Take, HandBack, Bill, Estimate, Correct, Pay}
+use Rattle.events.specs.declared.event.Event.TheVariants.{Correct}
 use Rattle.events.specs.declared.event.Basis.{Basis}
 use Rattle.events.specs.declared.event.Basis.TheVariants as basis
 use Rattle.events.specs.declared.fault.ReaderFault.{ReaderFault}
@@ -19,7 +19,7 @@ use Rattle.events.specs.Corrections.{finding_in, basis_in}
 use Rattle.events.specs.Events.{Form, t_line, h_line, b_line, e_line, c_line, p_line, forms, form_of, fields_after, event, event_in, event_with, event_from, event_of}
 use Rattle.events.specs.Written.{is_short, finding_fields, basis_fields, fields_of, line_of, is_carried}
 use Rattle.events.proofs.Digits.{figure_written}
-use Rattle.events.proofs.Spelled.{ok_inj, Writes, letter_writes, Spelled, Got, got, none_read, field_read, more_read, kwh_written, kva_written, cents_written, used, finding_spelled, basis_spelled, unused_spelled}
+use Rattle.events.proofs.Spelled.{ok_inj, Writes, letter_writes, Spelled, got, none_read, field_read, more_read, kwh_written, kva_written, cents_written, used, finding_spelled, basis_spelled, unused_spelled}
 
 spelled_length : {fs left : List (ℕ × List ℕ)} {gs : List (List ℕ)} → Spelled fs gs left → length fs ≡ length gs + length left
 spelled_length {fs} {left} {gs} s =

@@ -3,6 +3,7 @@
 
 mod cell;
 mod cells;
+mod correction;
 pub mod event;
 pub mod fault;
 mod field;

@@ -4,16 +4,14 @@ ghost use Rattle.std.specs.Prelude.{◌≡◌, ◌≤◌, length, IfOk};
 ghost use Rattle.events.specs.declared.event.Event.TheVariants.{Take, HandBack, Bill, Estimate, Correct, Pay};
 ghost use Rattle.events.specs.Lines.{fields as fields_of, placed};
 ghost use Rattle.events.specs.Events.{t_line, h_line, b_line, e_line, c_line, p_line, event, event_in, event_from, event_of};
-ghost use Rattle.events.specs.Corrections.{finding_in, basis_in};
 ghost use Rattle.events.specs.RoundTrip.{WritesAs};
-ghost use Rattle.events.specs.FieldsLeft.{fields_left, with_left, made, Handed};
+ghost use Rattle.events.specs.FieldsLeft.{fields_left, made, Handed};
 
-use crate::event::{Basis, Event};
+use crate::correction::correct_parts;
+use crate::event::Event;
 use crate::fault::ReaderFault;
 use crate::fields::Fields;
-use crate::letters::MethodName;
 use figures::reported::{Cents, Kva, Kwh, Reading};
-use method::finding::{Finding, Span};
 
 /// When, and for how long.
 #[inline(always)]
@@ -116,61 +114,6 @@ fn read_estimate(rest: &[u8]) -> Result<Event, ReaderFault>
         peak,
         demand,
     })
-}
-
-fn read_finding(fields: &mut Fields<'_>) -> Result<Finding, ReaderFault>
-    ensures value { finding_in (fields_left fields.old) ≡ with_left result fields.new }
-{
-    let cause = fields.parse()?;
-    let side = fields.parse()?;
-    let notice = fields.parse()?;
-    let ascertained = fields.parse()?;
-    let first = fields.parse()?;
-    let last = fields.parse()?;
-    let span = Span { first, last };
-    Ok(Finding {
-        cause,
-        side,
-        notice,
-        ascertained,
-        span,
-    })
-}
-
-fn read_basis(fields: &mut Fields<'_>) -> Result<Basis, ReaderFault>
-    ensures value { basis_in (fields_left fields.old) ≡ with_left result fields.new }
-{
-    Ok(match fields.parse()? {
-        MethodName::TestMeter => Basis::TestMeter {
-            shown: fields.parse()?,
-            tested: fields.parse()?,
-        },
-        MethodName::PreviousThree => Basis::PreviousThree {
-            from: fields.parse()?,
-        },
-        MethodName::LaterThree => Basis::LaterThree {
-            from: fields.parse()?,
-        },
-        MethodName::ContractDemand => Basis::ContractDemand {
-            kva: fields.parse()?,
-            utilization: fields.parse()?,
-            power: fields.parse()?,
-            load: fields.parse()?,
-            peak: fields.parse()?,
-        },
-    })
-}
-
-/// The hold, the finding and the method.
-fn correct_parts(mut fields: Fields<'_>) -> Result<(u64, Finding, Basis), ReaderFault>
-    ensures value { event_in c_line (fields_left fields.entry) ≡ made (λ p. Correct p.0 p.1 p.2) result }
-{
-    fields.require_count(13)?;
-    let hold = fields.parse()?;
-    let finding = read_finding(&mut fields)?;
-    let basis = read_basis(&mut fields)?;
-    fields.unused()?;
-    Ok((hold, finding, basis))
 }
 
 #[inline(always)]

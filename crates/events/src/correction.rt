@@ -1,0 +1,67 @@
+// The fields of a correction.
+ghost use Rattle.std.specs.Prelude.{◌≡◌};
+ghost use Rattle.events.specs.declared.event.Event.TheVariants.{Correct};
+ghost use Rattle.events.specs.Events.{c_line, event_in};
+ghost use Rattle.events.specs.Corrections.{finding_in, basis_in};
+ghost use Rattle.events.specs.FieldsLeft.{fields_left, with_left, made};
+
+use crate::event::Basis;
+use crate::fault::ReaderFault;
+use crate::fields::Fields;
+use crate::letters::MethodName;
+use method::finding::{Finding, Span};
+
+fn read_finding(fields: &mut Fields<'_>) -> Result<Finding, ReaderFault>
+    ensures value { finding_in (fields_left fields.old) ≡ with_left result fields.new }
+{
+    let cause = fields.parse()?;
+    let side = fields.parse()?;
+    let notice = fields.parse()?;
+    let ascertained = fields.parse()?;
+    let first = fields.parse()?;
+    let last = fields.parse()?;
+    let span = Span { first, last };
+    Ok(Finding {
+        cause,
+        side,
+        notice,
+        ascertained,
+        span,
+    })
+}
+
+fn read_basis(fields: &mut Fields<'_>) -> Result<Basis, ReaderFault>
+    ensures value { basis_in (fields_left fields.old) ≡ with_left result fields.new }
+{
+    Ok(match fields.parse()? {
+        MethodName::TestMeter => Basis::TestMeter {
+            shown: fields.parse()?,
+            tested: fields.parse()?,
+        },
+        MethodName::PreviousThree => Basis::PreviousThree {
+            from: fields.parse()?,
+        },
+        MethodName::LaterThree => Basis::LaterThree {
+            from: fields.parse()?,
+        },
+        MethodName::ContractDemand => Basis::ContractDemand {
+            kva: fields.parse()?,
+            utilization: fields.parse()?,
+            power: fields.parse()?,
+            load: fields.parse()?,
+            peak: fields.parse()?,
+        },
+    })
+}
+
+/// The hold, the finding and the method.
+pub(crate) fn correct_parts(mut fields: Fields<'_>) -> Result<(u64, Finding, Basis), ReaderFault>
+    ensures value { event_in c_line (fields_left fields.entry) ≡ made (λ p. Correct p.0 p.1 p.2) result }
+{
+    fields.require_count(13)?;
+    let hold = fields.parse()?;
+    let finding = read_finding(&mut fields)?;
+    let basis = read_basis(&mut fields)?;
+    fields.unused()?;
+    Ok((hold, finding, basis))
+}
