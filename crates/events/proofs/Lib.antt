@@ -7,3 +7,4 @@ pub mod Spelled
 pub mod Written
 pub mod ReadBack
 pub mod RoundTrip
+pub mod Found

@@ -18,13 +18,6 @@ use Rattle.std.specs.Result.{result_and}
 use Rattle.events.specs.FieldsLeft.{fields_from}
 use Rattle.events.specs.Lines.{lines, fields, placed}
 
--- where the first byte that passes stands
-pub first_some : (p : ℕ → Bool) (xs : List ℕ) (i : ℕ) → position p xs ≡ Some i → (i ≡ position_or_len p xs) × (i < length xs)
-first_some p xs i is = grind (arith, nat_tests)
-
-pub first_none : (p : ℕ → Bool) (xs : List ℕ) → position p xs ≡ None → position_or_len p xs ≡ length xs
-first_none p xs is = let h = prefix_len-le-length (λ x. not (p x)) xs in grind (arith, nat_tests)
-
 -- the rest of a text behind the first b, where there is one
 abbrev pub Behind : ℕ → List ℕ → Option (Bor (List ℕ)) → Type 0
 Behind b text rest = MatchOption rest

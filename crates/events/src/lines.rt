@@ -5,6 +5,8 @@ ghost use Rattle.std.specs.Iterator.{YieldsFirstRef, item_count};
 ghost use Rattle.events.specs.Lines.{lines};
 ghost use Rattle.events.specs.LinesLeft.{lines_left};
 
+use memchr::memchr;
+
 /// What stands before the first `mark`, and what after it, where there is one.
 fn split_at_first(text: &[u8], mark: u8) -> (&[u8], Option<&[u8]>)
     ensures before { result.0.now ≡ before_first (λ b. b == mark) text.now }
@@ -12,7 +14,7 @@ fn split_at_first(text: &[u8], mark: u8) -> (&[u8], Option<&[u8]>)
         (position_or_len (λ b. b == mark) text.now ≡ length text.now)
         (λ rest. (position_or_len (λ b. b == mark) text.now < length text.now) × (rest.now ≡ after_first (λ b. b == mark) text.now)) }
 {
-    match text.iter().position(|b| *b == mark) {
+    match memchr(mark, text) {
         Some(end) => (&text[..end], Some(&text[end + 1..])),
         None => (text, None),
     }
