@@ -42,6 +42,6 @@ by_fields (c ∷ []) = one_byte c (eqb c 44)
 by_fields (c ∷ d ∷ xs) =
     two_bytes c d (fields xs) (eqb c 44) (eqb d 44) (eqb-true c 44) ∙ simp (le-ltb (length (c ∷ d ∷ xs)) 2 (omega arith))
 
--- a short line of no form
-pub unchosen : (xs : List ℕ) → length xs ≤ 140 → begins xs ≡ None → Err Shape ≡ event_of xs
-unchosen xs short is = sym (simp (le-ltb 140 (length xs) short) (by_fields xs ∙ ap (λ o. event_with o (placed 3 (fields (drop 2 xs)))) is))
+-- a line of no form
+pub unchosen : (xs : List ℕ) → begins xs ≡ None → Err Shape ≡ event_from (fields xs)
+unchosen xs is = sym (by_fields xs ∙ ap (λ o. event_with o (placed 3 (fields (drop 2 xs)))) is)

@@ -1,4 +1,5 @@
 pub mod Steps
+pub mod FirstField
 pub mod Begins
 pub mod Digits
 pub mod Joined

@@ -6,6 +6,7 @@ pub mod Reads
 pub mod Corrections
 pub mod Events
 pub mod LinesLeft
+pub mod FirstField
 pub mod FieldsLeft
 pub mod Written
 pub mod Writing

@@ -2,13 +2,6 @@
 ghost use Rattle.std.specs.Prelude.{◌+◌, ◌≤◌, length};
 ghost use Rattle.std.specs.Option.{ForSome};
 
-/// A field, and the column at which it begins.
-#[derive(Clone, Copy)]
-pub(crate) struct Field<'a> {
-    pub(crate) bytes: &'a [u8],
-    pub(crate) column: u8,
-}
-
 /// Hands out the fields that stand after a line's letter and its comma.
 #[derive(Drop)]
 pub(crate) struct Fields<'a> {

@@ -8,41 +8,54 @@ use figures::reported::{Cents, Kva, Kwh};
 impl FromField for u64 {
     ghost held = { figure_of };
 
-    fn from_field(field: &[u8]) -> Option<u64> {
-        if field.len() > 13 || matches!(field, [] | [b'0', _, ..]) {
-            return None;
-        }
+    #[inline(always)]
+    fn from_field(text: &[u8]) -> Option<(u64, usize)> {
         let mut number = 0;
-        for digit in field {
-            if !digit.is_ascii_digit() {
+        let mut length = 0;
+        for byte in text {
+            if *byte == b',' {
+                break;
+            }
+            if length == 13 || !byte.is_ascii_digit() {
                 return None;
             }
-            number = number * 10 + u64::from(*digit - b'0');
+            number = number * 10 + u64::from(*byte - b'0');
+            length += 1;
         }
-        Some(number)
+        match text {
+            [b'0', ..] if length > 1 => None,
+            _ if length == 0 => None,
+            _ => Some((number, length)),
+        }
     }
 }
 
 impl FromField for Kwh {
     ghost held = { kwh_of };
 
-    fn from_field(field: &[u8]) -> Option<Kwh> {
-        Some(Kwh(u64::from_field(field)?))
+    #[inline(always)]
+    fn from_field(text: &[u8]) -> Option<(Kwh, usize)> {
+        let (number, length) = u64::from_field(text)?;
+        Some((Kwh(number), length))
     }
 }
 
 impl FromField for Kva {
     ghost held = { kva_of };
 
-    fn from_field(field: &[u8]) -> Option<Kva> {
-        Some(Kva(u64::from_field(field)?))
+    #[inline(always)]
+    fn from_field(text: &[u8]) -> Option<(Kva, usize)> {
+        let (number, length) = u64::from_field(text)?;
+        Some((Kva(number), length))
     }
 }
 
 impl FromField for Cents {
     ghost held = { cents_of };
 
-    fn from_field(field: &[u8]) -> Option<Cents> {
-        Some(Cents(u64::from_field(field)?))
+    #[inline(always)]
+    fn from_field(text: &[u8]) -> Option<(Cents, usize)> {
+        let (number, length) = u64::from_field(text)?;
+        Some((Cents(number), length))
     }
 }

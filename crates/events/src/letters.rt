@@ -1,6 +1,7 @@
 // Fields that hold one letter, or nothing but 0.
 ghost use Rattle.std.specs.Prelude.{◌≡◌};
 ghost use Rattle.events.specs.Letters.{cause_of, side_of, known_of, method_of, unused_of};
+ghost use Rattle.events.specs.FirstField.{first_field, only};
 ghost use Rattle.events.specs.Written.{cause_letter, side_letter, known_letter};
 
 use crate::field::FromField;
@@ -19,30 +20,43 @@ pub(crate) enum MethodName {
 #[derive(Clone, Copy)]
 pub(crate) struct Unused;
 
+/// The byte of the text's first field, if that field has one byte.
+fn letter(text: &[u8]) -> Option<u8>
+    ensures { result ≡ only (first_field text.now) }
+{
+    match text {
+        [b',', ..] => None,
+        [byte] | [byte, b',', ..] => Some(*byte),
+        _ => None,
+    }
+}
+
 impl FromField for Cause {
     ghost held = { cause_of };
 
-    fn from_field(field: &[u8]) -> Option<Cause> {
-        match field {
-            [b'A'] => Some(Cause::Absent),
-            [b'U'] => Some(Cause::Under),
-            [b'O'] => Some(Cause::Over),
-            [b'S'] => Some(Cause::Stopped),
-            [b'X'] => Some(Cause::Altered),
-            _ => None,
-        }
+    fn from_field(text: &[u8]) -> Option<(Cause, usize)> {
+        let value = match letter(text)? {
+            b'A' => Cause::Absent,
+            b'U' => Cause::Under,
+            b'O' => Cause::Over,
+            b'S' => Cause::Stopped,
+            b'X' => Cause::Altered,
+            _ => return None,
+        };
+        Some((value, 1))
     }
 }
 
 impl FromField for Side {
     ghost held = { side_of };
 
-    fn from_field(field: &[u8]) -> Option<Side> {
-        match field {
-            [b'c'] => Some(Side::Consumer),
-            [b's'] => Some(Side::Supplier),
-            _ => None,
-        }
+    fn from_field(text: &[u8]) -> Option<(Side, usize)> {
+        let value = match letter(text)? {
+            b'c' => Side::Consumer,
+            b's' => Side::Supplier,
+            _ => return None,
+        };
+        Some((value, 1))
     }
 }
 
@@ -50,37 +64,40 @@ impl FromField for Side {
 impl FromField for bool {
     ghost held = { known_of };
 
-    fn from_field(field: &[u8]) -> Option<bool> {
-        match field {
-            [b'y'] => Some(true),
-            [b'n'] => Some(false),
-            _ => None,
-        }
+    fn from_field(text: &[u8]) -> Option<(bool, usize)> {
+        let value = match letter(text)? {
+            b'y' => true,
+            b'n' => false,
+            _ => return None,
+        };
+        Some((value, 1))
     }
 }
 
 impl FromField for MethodName {
     ghost held = { method_of };
 
-    fn from_field(field: &[u8]) -> Option<MethodName> {
-        match field {
-            [b'M'] => Some(MethodName::TestMeter),
-            [b'P'] => Some(MethodName::PreviousThree),
-            [b'L'] => Some(MethodName::LaterThree),
-            [b'D'] => Some(MethodName::ContractDemand),
-            _ => None,
-        }
+    fn from_field(text: &[u8]) -> Option<(MethodName, usize)> {
+        let value = match letter(text)? {
+            b'M' => MethodName::TestMeter,
+            b'P' => MethodName::PreviousThree,
+            b'L' => MethodName::LaterThree,
+            b'D' => MethodName::ContractDemand,
+            _ => return None,
+        };
+        Some((value, 1))
     }
 }
 
 impl FromField for Unused {
     ghost held = { unused_of };
 
-    fn from_field(field: &[u8]) -> Option<Unused> {
-        match field {
-            [b'0'] => Some(Unused),
-            _ => None,
-        }
+    fn from_field(text: &[u8]) -> Option<(Unused, usize)> {
+        let value = match letter(text)? {
+            b'0' => Unused,
+            _ => return None,
+        };
+        Some((value, 1))
     }
 }
 

@@ -6,7 +6,7 @@ ghost use Rattle.events.specs.Lines.{lines};
 ghost use Rattle.events.specs.LinesLeft.{lines_left};
 
 /// What stands before the first `mark`, and what after it, where there is one.
-pub(crate) fn split_at_first(text: &[u8], mark: u8) -> (&[u8], Option<&[u8]>)
+fn split_at_first(text: &[u8], mark: u8) -> (&[u8], Option<&[u8]>)
     ensures before { result.0.now ≡ before_first (λ b. b == mark) text.now }
     ensures after { MatchOption result.1
         (position_or_len (λ b. b == mark) text.now ≡ length text.now)

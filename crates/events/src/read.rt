@@ -1,43 +1,85 @@
-// Events read from lines.
-ghost use Rattle.std.specs.Prelude.{◌≡◌};
-ghost use Rattle.events.specs.Events.{t_line, h_line, b_line, e_line, c_line, p_line, event_in, event_of};
+// Events read from lines. All is inlined where a line is served, so that an event, which may be large, is not stored on the way;
+// only the parts of an estimate and of a correction are read by calls, since inlining ends at some size.
+ghost use Rattle.std.specs.Prelude.{◌≡◌, ◌≤◌, length, IfOk};
+ghost use Rattle.events.specs.declared.event.Event.TheVariants.{Take, HandBack, Bill, Estimate, Correct, Pay};
+ghost use Rattle.events.specs.Lines.{fields as fields_of, placed};
+ghost use Rattle.events.specs.Events.{t_line, h_line, b_line, e_line, c_line, p_line, event, event_in, event_from, event_of};
 ghost use Rattle.events.specs.Corrections.{finding_in, basis_in};
-ghost use Rattle.events.specs.FieldsLeft.{fields_left, with_left};
+ghost use Rattle.events.specs.RoundTrip.{WritesAs};
+ghost use Rattle.events.specs.FieldsLeft.{fields_left, with_left, made, Handed};
 
 use crate::event::{Basis, Event};
 use crate::fault::ReaderFault;
 use crate::fields::Fields;
 use crate::letters::MethodName;
-use figures::reported::Reading;
+use figures::reported::{Cents, Kva, Kwh, Reading};
 use method::finding::{Finding, Span};
 
-fn read_take(mut fields: Fields<'_>) -> Result<Event, ReaderFault>
-    ensures value { result ≡ event_in t_line (fields_left fields.entry) }
+/// When, and for how long.
+#[inline(always)]
+fn take_parts(fields: &mut Fields<'_>) -> Result<(u64, u64), ReaderFault>
+    ensures value { event t_line (fields_left fields.old) ≡ made (λ p. Take p.0 p.1) result }
+    ensures left { Handed 2 result fields.old fields.new }
 {
-    fields.require_count(2)?;
     let moment = fields.parse()?;
     let span = fields.parse()?;
+    Ok((moment, span))
+}
+
+#[inline(always)]
+fn read_take(rest: &[u8]) -> Result<Event, ReaderFault>
+    requires { length rest.now ≤ 140 }
+    ensures value { result ≡ event_in t_line (placed 3 (fields_of rest.now)) }
+{
+    let mut fields = Fields::new(rest);
+    let read = take_parts(&mut fields);
+    let (moment, span) = fields.counted(rest, 2, read)?;
     Ok(Event::Take { moment, span })
 }
 
-fn read_hand_back(mut fields: Fields<'_>) -> Result<Event, ReaderFault>
-    ensures value { result ≡ event_in h_line (fields_left fields.entry) }
+/// The hold.
+#[inline(always)]
+fn hand_back_parts(fields: &mut Fields<'_>) -> Result<u64, ReaderFault>
+    ensures value { event h_line (fields_left fields.old) ≡ made (λ p. HandBack p) result }
+    ensures left { Handed 1 result fields.old fields.new }
 {
-    fields.require_count(1)?;
-    let hold = fields.parse()?;
+    fields.parse()
+}
+
+#[inline(always)]
+fn read_hand_back(rest: &[u8]) -> Result<Event, ReaderFault>
+    requires { length rest.now ≤ 140 }
+    ensures value { result ≡ event_in h_line (placed 3 (fields_of rest.now)) }
+{
+    let mut fields = Fields::new(rest);
+    let read = hand_back_parts(&mut fields);
+    let hold = fields.counted(rest, 1, read)?;
     Ok(Event::HandBack { hold })
 }
 
-fn read_bill(mut fields: Fields<'_>) -> Result<Event, ReaderFault>
-    ensures value { result ≡ event_in b_line (fields_left fields.entry) }
+/// The hold, the last day and the reading.
+#[inline(always)]
+fn bill_parts(fields: &mut Fields<'_>) -> Result<(u64, u64, Reading), ReaderFault>
+    ensures value { event b_line (fields_left fields.old) ≡ made (λ p. Bill p.0 p.1 p.2) result }
+    ensures left { Handed 5 result fields.old fields.new }
 {
-    fields.require_count(5)?;
     let hold = fields.parse()?;
     let last = fields.parse()?;
     let day = fields.parse()?;
     let peak = fields.parse()?;
     let demand = fields.parse()?;
     let reading = Reading { day, peak, demand };
+    Ok((hold, last, reading))
+}
+
+#[inline(always)]
+fn read_bill(rest: &[u8]) -> Result<Event, ReaderFault>
+    requires { length rest.now ≤ 140 }
+    ensures value { result ≡ event_in b_line (placed 3 (fields_of rest.now)) }
+{
+    let mut fields = Fields::new(rest);
+    let read = bill_parts(&mut fields);
+    let (hold, last, reading) = fields.counted(rest, 5, read)?;
     Ok(Event::Bill {
         hold,
         last,
@@ -45,15 +87,28 @@ fn read_bill(mut fields: Fields<'_>) -> Result<Event, ReaderFault>
     })
 }
 
-fn read_estimate(mut fields: Fields<'_>) -> Result<Event, ReaderFault>
-    ensures value { result ≡ event_in e_line (fields_left fields.entry) }
+/// The hold, the last day and the category.
+#[inline(never)]
+fn estimate_parts(fields: &mut Fields<'_>) -> Result<(u64, u64, Kwh, u64, Kva), ReaderFault>
+    ensures value { event e_line (fields_left fields.old) ≡ made (λ p. Estimate p.0 p.1 p.2 p.3 p.4) result }
+    ensures left { Handed 5 result fields.old fields.new }
 {
-    fields.require_count(5)?;
     let hold = fields.parse()?;
     let last = fields.parse()?;
     let figure = fields.parse()?;
     let peak = fields.parse()?;
     let demand = fields.parse()?;
+    Ok((hold, last, figure, peak, demand))
+}
+
+#[inline(always)]
+fn read_estimate(rest: &[u8]) -> Result<Event, ReaderFault>
+    requires { length rest.now ≤ 140 }
+    ensures value { result ≡ event_in e_line (placed 3 (fields_of rest.now)) }
+{
+    let mut fields = Fields::new(rest);
+    let read = estimate_parts(&mut fields);
+    let (hold, last, figure, peak, demand) = fields.counted(rest, 5, read)?;
     Ok(Event::Estimate {
         hold,
         last,
@@ -106,14 +161,24 @@ fn read_basis(fields: &mut Fields<'_>) -> Result<Basis, ReaderFault>
     })
 }
 
-fn read_correct(mut fields: Fields<'_>) -> Result<Event, ReaderFault>
-    ensures value { result ≡ event_in c_line (fields_left fields.entry) }
+/// The hold, the finding and the method.
+fn correct_parts(mut fields: Fields<'_>) -> Result<(u64, Finding, Basis), ReaderFault>
+    ensures value { event_in c_line (fields_left fields.entry) ≡ made (λ p. Correct p.0 p.1 p.2) result }
 {
     fields.require_count(13)?;
     let hold = fields.parse()?;
     let finding = read_finding(&mut fields)?;
     let basis = read_basis(&mut fields)?;
     fields.unused()?;
+    Ok((hold, finding, basis))
+}
+
+#[inline(always)]
+fn read_correct(rest: &[u8]) -> Result<Event, ReaderFault>
+    requires { length rest.now ≤ 140 }
+    ensures value { result ≡ event_in c_line (placed 3 (fields_of rest.now)) }
+{
+    let (hold, finding, basis) = correct_parts(Fields::new(rest))?;
     Ok(Event::Correct {
         hold,
         finding,
@@ -121,29 +186,53 @@ fn read_correct(mut fields: Fields<'_>) -> Result<Event, ReaderFault>
     })
 }
 
-fn read_pay(mut fields: Fields<'_>) -> Result<Event, ReaderFault>
-    ensures value { result ≡ event_in p_line (fields_left fields.entry) }
+/// The hold and the cents.
+#[inline(always)]
+fn pay_parts(fields: &mut Fields<'_>) -> Result<(u64, Cents), ReaderFault>
+    ensures value { event p_line (fields_left fields.old) ≡ made (λ p. Pay p.0 p.1) result }
+    ensures left { Handed 2 result fields.old fields.new }
 {
-    fields.require_count(2)?;
     let hold = fields.parse()?;
     let cents = fields.parse()?;
+    Ok((hold, cents))
+}
+
+#[inline(always)]
+fn read_pay(rest: &[u8]) -> Result<Event, ReaderFault>
+    requires { length rest.now ≤ 140 }
+    ensures value { result ≡ event_in p_line (placed 3 (fields_of rest.now)) }
+{
+    let mut fields = Fields::new(rest);
+    let read = pay_parts(&mut fields);
+    let (hold, cents) = fields.counted(rest, 2, read)?;
     Ok(Event::Pay { hold, cents })
 }
 
-/// The event that a line carries: its first two bytes choose the form, and the rest is its fields.
+/// The event of a line that is short enough: its first two bytes choose the form, and the rest is its fields.
+#[inline(always)]
+fn read_form(line: &[u8]) -> Result<Event, ReaderFault>
+    requires { length line.now ≤ 140 }
+    ensures { result ≡ event_from (fields_of line.now) }
+{
+    match line {
+        [b'T', b',', rest @ ..] => read_take(rest),
+        [b'H', b',', rest @ ..] => read_hand_back(rest),
+        [b'B', b',', rest @ ..] => read_bill(rest),
+        [b'E', b',', rest @ ..] => read_estimate(rest),
+        [b'C', b',', rest @ ..] => read_correct(rest),
+        [b'P', b',', rest @ ..] => read_pay(rest),
+        _ => Err(ReaderFault::Shape),
+    }
+}
+
+/// The event that a line carries. The line is the one that is written for that event.
+#[inline(always)]
 pub fn read_event(line: &[u8]) -> Result<Event, ReaderFault>
     ensures value { result ≡ event_of line.now }
+    ensures written { IfOk result (λ event. WritesAs line.now event) }
 {
     if line.len() > 140 {
         return Err(ReaderFault::TooLong);
     }
-    match line {
-        [b'T', b',', rest @ ..] => read_take(Fields::new(rest)),
-        [b'H', b',', rest @ ..] => read_hand_back(Fields::new(rest)),
-        [b'B', b',', rest @ ..] => read_bill(Fields::new(rest)),
-        [b'E', b',', rest @ ..] => read_estimate(Fields::new(rest)),
-        [b'C', b',', rest @ ..] => read_correct(Fields::new(rest)),
-        [b'P', b',', rest @ ..] => read_pay(Fields::new(rest)),
-        _ => Err(ReaderFault::Shape),
-    }
+    read_form(line)
 }

@@ -1,24 +1,26 @@
 // The walk over the fields of a line.
-ghost use Rattle.std.specs.Prelude.{◌≡◌, ◌≤◌, length, if◌then◌else◌, Ok, Err, nat_eq};
-ghost use Rattle.std.specs.Iterator.{YieldsFirstBy, item_count};
+ghost use Rattle.std.specs.Prelude.{◌≡◌, ◌+◌, ◌≤◌, ◌==◌, length, count_by, if◌then◌else◌, Ok, Err, nat_eq, IfOk};
 ghost use Rattle.events.specs.declared.fault.ReaderFault.TheVariants.{Shape};
 ghost use Rattle.events.specs.Lines.{fields, placed};
-ghost use Rattle.events.specs.Reads.{lawful, field, unused};
-ghost use Rattle.events.specs.FieldsLeft.{field_of, fields_left, with_left};
+ghost use Rattle.events.specs.Reads.{field, unused};
+ghost use Rattle.events.specs.FieldsLeft.{fields_left, with_left, Handed};
 
 use crate::fault::ReaderFault;
 use crate::field::FromField;
-use crate::fields::{Field, Fields};
+use crate::fields::Fields;
 use crate::letters::Unused;
-use crate::lines::split_at_first;
 
-impl<'a> Field<'a> {
-    /// What the field holds.
-    fn parse<T: FromField>(self) -> Result<T, ReaderFault>
-        ensures value { result ≡ lawful T.FromField.held (field_of self.entry) }
-    {
-        T::from_field(self.bytes).ok_or(ReaderFault::Field(self.column))
+/// How many commas stand in it: a plain loop, which the compiler takes many bytes at a time.
+fn commas(rest: &[u8]) -> usize
+    ensures { result ≡ count_by (λ b. b == 44) rest.now }
+{
+    let mut count = 0;
+    for byte in rest {
+        if *byte == b',' {
+            count += 1;
+        }
     }
+    count
 }
 
 impl<'a> Fields<'a> {
@@ -39,12 +41,13 @@ impl<'a> Fields<'a> {
         ensures { result ≡ length (fields_left self.now) }
     {
         match self.rest {
-            Some(rest) => rest.iter().filter(|b| **b == b',').count() + 1,
+            Some(rest) => commas(rest) + 1,
             None => 0,
         }
     }
 
     /// The form asks for so many fields.
+    #[inline(never)]
     pub(crate) fn require_count(&self, asked: usize) -> Result<(), ReaderFault>
         ensures value { result ≡ (if nat_eq (length (fields_left self.now)) asked then Ok tt else Err Shape) }
     {
@@ -54,39 +57,45 @@ impl<'a> Fields<'a> {
         Ok(())
     }
 
-    /// What the next field holds; none is left only where more are read than were counted.
+    /// What was read of the fields of `rest`, if those are as many as the form asks. That question comes first, but they need
+    /// counting only where a field was not read or some are left.
+    #[inline(always)]
+    pub(crate) fn counted<T: Copy>(
+        self,
+        rest: &[u8],
+        asked: usize,
+        read: Result<T, ReaderFault>,
+    ) -> Result<T, ReaderFault>
+        requires short { length rest.now ≤ 140 }
+        requires handed { IfOk read (λ x. length (placed 3 (fields rest.now)) ≡ length (fields_left self) + asked) }
+        ensures value { result ≡ (if nat_eq (length (placed 3 (fields rest.now))) asked then read else Err Shape) }
+    {
+        if read.is_err() || self.rest.is_some() {
+            Fields::new(rest).require_count(asked)?;
+        }
+        read
+    }
+
+    /// What the next field holds, if one is left.
+    #[inline(always)]
     pub(crate) fn parse<T: FromField>(&mut self) -> Result<T, ReaderFault>
         ensures value { field T.FromField.held (fields_left self.old) ≡ with_left result self.new }
+        ensures left { Handed 1 result self.old self.new }
     {
-        self.next().ok_or(ReaderFault::Shape)?.parse()
+        let rest = self.rest.ok_or(ReaderFault::Shape)?;
+        let (value, length) = T::from_field(rest).ok_or(ReaderFault::Field(self.column))?;
+        self.rest = rest.get(length + 1..);
+        self.column += length as u8 + 1;
+        Ok(value)
     }
 
     /// The fields that are left hold 0.
-    pub(crate) fn unused(self) -> Result<(), ReaderFault>
+    pub(crate) fn unused(mut self) -> Result<(), ReaderFault>
         ensures value { result ≡ unused (fields_left self.entry) }
     {
-        for field in self {
-            let Unused = field.parse()?;
+        while self.rest.is_some() {
+            let Unused = self.parse()?;
         }
         Ok(())
-    }
-}
-
-impl<'a> Iterator for Fields<'a> {
-    type Item = Field<'a>;
-
-    ghost next_gives = { YieldsFirstBy field_of fields_left };
-
-    ghost remaining = { item_count fields_left };
-
-    fn next(&mut self) -> Option<Field<'a>> {
-        let (bytes, rest) = split_at_first(self.rest?, b',');
-        let field = Field {
-            bytes,
-            column: self.column,
-        };
-        self.rest = rest;
-        self.column += bytes.len() as u8 + 1;
-        Some(field)
     }
 }

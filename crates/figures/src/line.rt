@@ -8,19 +8,20 @@ pub enum Letter {
     Payment,
 }
 
-/// What a bill, the correction of one row or a payment moved the balance by. A payment names no row.
+/// What a bill, the correction of one row or a payment moved the balance by. A payment names no row. A row's number is a
+/// `u8`, since a sheet has at most 120: a line is then 16 bytes, and a journal of 1,024 lines costs less to set up.
 #[derive(Clone, Copy)]
 pub struct Line {
     pub hold: u32,
     pub letter: Letter,
-    pub row: Option<u32>,
+    pub row: Option<u8>,
     pub cents: Money,
 }
 
-/// What stands in a journal's memory before a line is written there.
+/// What stands in a journal's memory before a line is written there: zeros, which a memory is filled with the fastest.
 pub const EMPTY: Line = Line {
     hold: 0,
-    letter: Letter::Payment,
+    letter: Letter::Bill,
     row: None,
     cents: Money(0),
 };

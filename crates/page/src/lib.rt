@@ -1,6 +1,7 @@
 // A page lent by the caller: what is written on it, piece by piece, and zeros after it.
 #![tactic(auto)]
 
+mod digits;
 mod kept;
 mod writes;
 

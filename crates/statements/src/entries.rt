@@ -51,12 +51,17 @@ pub(crate) fn answer(page: &mut Page, outcome: Result<i64, Fault>) -> Result<(),
 {
     match outcome {
         Ok(value) => answer_line(page, Layer::Account, 0, value),
-        Err(fault) => answer_line(page, fault.layer(), fault.number(), i64::from(fault.value())),
+        Err(fault) => answer_line(
+            page,
+            fault.layer(),
+            fault.number(),
+            i64::from(fault.value()),
+        ),
     }
 }
 
 /// A row's number, or `-` where the line names none.
-fn row(page: &mut Page, row: Option<u32>) -> Result<(), Full>
+fn row(page: &mut Page, row: Option<u8>) -> Result<(), Full>
     ensures { Wrote page.old page.new result (row_text row) }
 {
     match row {

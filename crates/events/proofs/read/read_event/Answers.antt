@@ -1,27 +1,9 @@
-use Rattle.std.proofs.Common.{rules}
-use Rattle.events.proofs.Begins.{unchosen}
+use Rattle.std.proofs.Common.{le-ltb, sym, ◌∙◌}
+use Rattle.std.proofs.lemmas.Bool.{cond-false}
+use Rattle.events.proofs.RoundTrip.{writes_as}
 use Rattle.events.proofs.read.read_event.Goals as goal
 
-pub returns-in_default : goal.returns-in_default
-returns-in_default c = record { value = unchosen c.args.line.now c.if-line-gt140.false (search rules) }
-
-pub returns-in_default-2 : goal.returns-in_default-2
-returns-in_default-2 c = record { value = unchosen c.args.line.now c.if-line-gt140.false (search rules) }
-
-pub returns-in_default-3 : goal.returns-in_default-3
-returns-in_default-3 c = record { value = unchosen c.args.line.now c.if-line-gt140.false (search rules) }
-
-pub returns-in_default-4 : goal.returns-in_default-4
-returns-in_default-4 c = record { value = unchosen c.args.line.now c.if-line-gt140.false (search rules) }
-
-pub returns-in_default-5 : goal.returns-in_default-5
-returns-in_default-5 c = record { value = unchosen c.args.line.now c.if-line-gt140.false (search rules) }
-
-pub returns-in_default-6 : goal.returns-in_default-6
-returns-in_default-6 c = record { value = unchosen c.args.line.now c.if-line-gt140.false (search rules) }
-
-pub returns-in_default-7 : goal.returns-in_default-7
-returns-in_default-7 c = record { value = unchosen c.args.line.now c.if-line-gt140.false (search rules) }
-
-pub returns-in_default-8 : goal.returns-in_default-8
-returns-in_default-8 c = record { value = unchosen c.args.line.now c.if-line-gt140.false (search rules) }
+pub returns : goal.returns
+returns c =
+    let value = c.read_form.ensures ∙ sym (cond-false _ _ _ (le-ltb _ _ c.if-line-gt140.false)) in
+    record { value = value; written = writes_as c.args.line.now c.read_form.result value }
