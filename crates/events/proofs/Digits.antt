@@ -9,7 +9,7 @@ use Rattle.std.proofs.lemmas.Grind.{get_or_default_zero}
 use Rattle.std.proofs.lemmas.Str.Parse.{IsNumeralModel, numerals_by_fold, tells_all_ascii_digits, digits_value_short, numerals_by_value, tells_by_index}
 use Rattle.std.proofs.lemmas.Fmt.{length-decimal-le, decimal-digits_value, digits_value-decimal, digits_decimal, decimal_nonempty, first_decimal, decimal_digit}
 use Rattle.events.specs.Figures.{number_on, is_figure, figure_of}
-use Rattle.events.specs.Written.{is_short}
+use Rattle.events.specs.Carried.{is_short}
 
 numerals : IsNumeralModel (λ ds. all_ascii_digits ds ≡ true) (number_on 0)
 numerals = numerals_by_fold _ tells_all_ascii_digits number_on (record { empty = λ n. refl; more = λ n c cs h. refl })

@@ -27,7 +27,7 @@ use Rattle.events.specs.Letters.{cause_of, side_of, known_of}
 use Rattle.events.specs.Corrections.{finding_in, basis_in}
 use Rattle.events.specs.Reads.{on, read, unused}
 use Rattle.events.specs.Events.{Form, c_line, fields_after, event, event_in, event_from, event_of}
-use Rattle.events.specs.Written.{is_short, cause_letter, side_letter, known_letter, finding_fields, basis_fields, fields_of, line_of, is_carried}
+use Rattle.events.specs.Carried.{is_short, cause_letter, side_letter, known_letter, finding_fields, basis_fields, fields_of, line_of, is_carried}
 use Rattle.events.specs.RoundTrip.{ReadsAs}
 use Rattle.events.proofs.Digits.{figure_read, figure_printed}
 

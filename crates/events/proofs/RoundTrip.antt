@@ -8,13 +8,13 @@ use Rattle.events.specs.declared.fault.ReaderFault.{ReaderFault}
 use Rattle.events.specs.declared.unwritten.Unwritten.{Unwritten}
 use Rattle.events.specs.declared.unwritten.Unwritten.TheVariants.{NoLine, Page}
 use Rattle.events.specs.Events.{event_of}
-use Rattle.events.specs.Written.{fields_of, line_of, is_carried}
+use Rattle.events.specs.Carried.{fields_of, line_of, is_carried}
 use Rattle.events.specs.Writing.{Written}
-use Rattle.events.specs.RoundTrip.{ReadsAs, NeverRead, WritesAs}
+use Rattle.events.specs.RoundTrip.{ReadsAs, NeverRead, IsLineOf}
 use Rattle.events.proofs.ReadBack.{reads_as}
 use Rattle.events.proofs.Written.{line_written}
 
-pub writes_as : (line : List ℕ) (r : Result Event ReaderFault) → r ≡ event_of line → IfOk r (λ e. WritesAs line e)
+pub writes_as : (line : List ℕ) (r : Result Event ReaderFault) → r ≡ event_of line → IfOk r (λ e. IsLineOf line e)
 writes_as line (Ok e) is = let w = line_written line e (sym is) in (sym w.0, w.1)
 writes_as line (Err f) is = tt
 

@@ -18,7 +18,7 @@ use Rattle.events.specs.Figures.{figure_of, kwh_of, kva_of, cents_of}
 use Rattle.events.specs.Letters.{named, one_of, causes, sides, knowns, methods, cause_of, side_of, known_of, method_of, unused_of}
 use Rattle.events.specs.Reads.{on, read, unused}
 use Rattle.events.specs.Corrections.{finding_in, basis_by, basis_in}
-use Rattle.events.specs.Written.{is_short, cause_letter, side_letter, known_letter, finding_fields}
+use Rattle.events.specs.Carried.{is_short, cause_letter, side_letter, known_letter, finding_fields}
 use Rattle.events.proofs.Digits.{figure_written}
 
 pub ok_inj : {A : Type 0} (x y : A) → ◌≡◌ {A = Result A ReaderFault} (Ok x) (Ok y) → x ≡ y

@@ -17,7 +17,7 @@ use Rattle.events.specs.Figures.{figure_of, kwh_of, kva_of, cents_of}
 use Rattle.events.specs.Reads.{on, unused}
 use Rattle.events.specs.Corrections.{finding_in, basis_in}
 use Rattle.events.specs.Events.{Form, t_line, h_line, b_line, e_line, c_line, p_line, forms, form_of, fields_after, event, event_in, event_with, event_from, event_of}
-use Rattle.events.specs.Written.{is_short, finding_fields, basis_fields, fields_of, line_of, is_carried}
+use Rattle.events.specs.Carried.{is_short, finding_fields, basis_fields, fields_of, line_of, is_carried}
 use Rattle.events.proofs.Digits.{figure_written}
 use Rattle.events.proofs.Spelled.{ok_inj, Writes, letter_writes, Spelled, got, none_read, field_read, more_read, kwh_written, kva_written, cents_written, used, finding_spelled, basis_spelled, unused_spelled}
 

@@ -8,6 +8,6 @@ pub mod Events
 pub mod LinesLeft
 pub mod FirstField
 pub mod FieldsLeft
-pub mod Written
+pub mod Carried
 pub mod Writing
 pub mod RoundTrip

@@ -3,7 +3,7 @@ use Rattle.std.specs.Prelude.{◌≡◌, List, ℕ, [], ◌∷◌, map, true, Ok
 use Rattle.events.specs.declared.event.Event.{Event}
 use Rattle.events.specs.Lines.{lines}
 use Rattle.events.specs.Events.{event_of}
-use Rattle.events.specs.Written.{line_of, is_carried}
+use Rattle.events.specs.Carried.{line_of, is_carried}
 
 -- the lines of a text read as this event alone
 abbrev pub ReadsAs : (text : List ℕ) → Event → Type 0
@@ -13,6 +13,6 @@ ReadsAs text e = map event_of (lines text) ≡ Ok e ∷ []
 abbrev pub NeverRead : Event → Type 0
 NeverRead e = (line : List ℕ) → event_of line ≡ Ok e → ⊥
 
--- a line is the one that is written for the event, and can carry it
-abbrev pub WritesAs : (line : List ℕ) → Event → Type 0
-WritesAs line e = (line_of e ≡ line) × (is_carried e ≡ true)
+-- this line is the one that is written for the event, and a line can carry the event
+abbrev pub IsLineOf : (line : List ℕ) → Event → Type 0
+IsLineOf line e = (line_of e ≡ line) × (is_carried e ≡ true)

@@ -1,8 +1,8 @@
-// What a field of a line is written for.
+// A field to be written: a letter or a figure.
 ghost use Rattle.std.specs.Prelude.{◌≡◌, ◌∷◌};
-ghost use Rattle.page.specs.Pages.{Wrote};
+ghost use Rattle.page.specs.Writes.{Wrote};
 ghost use Rattle.events.specs.declared.cell.Cell.TheVariants.{Figure};
-ghost use Rattle.events.specs.Written.{is_short};
+ghost use Rattle.events.specs.Carried.{is_short};
 ghost use Rattle.events.specs.Writing.{text_of};
 
 use figures::reported::Figure;
@@ -25,7 +25,7 @@ impl Cell {
         Cell::Figure(figure.size())
     }
 
-    /// Whether a field holds as many digits.
+    /// Whether a field holds it: a figure of at most 13 digits.
     #[tactic(auto, using(crate::proofs::Digits::short_figure))]
     pub(crate) fn is_short(&self) -> bool
         ensures { result ≡ is_short (text_of self.now) }

@@ -1,7 +1,7 @@
 // The fields that are written for an event, after the letter of its line.
 ghost use Rattle.std.specs.Prelude.{◌≡◌, ◌∷◌, [], map, decimal, replicate, codes};
 ghost use Rattle.events.specs.declared.event.Event.TheVariants.{Bill, Estimate};
-ghost use Rattle.events.specs.Written.{finding_fields, basis_fields, fields_of};
+ghost use Rattle.events.specs.Carried.{finding_fields, basis_fields, fields_of};
 ghost use Rattle.events.specs.Writing.{text_of};
 
 use crate::cell::{Cell, UNUSED};

@@ -1,8 +1,8 @@
-// Fields that hold one letter, or nothing but 0.
+// The letters of fields, read and written, and the field that holds nothing but 0.
 ghost use Rattle.std.specs.Prelude.{◌≡◌};
 ghost use Rattle.events.specs.Letters.{cause_of, side_of, known_of, method_of, unused_of};
 ghost use Rattle.events.specs.FirstField.{first_field, only};
-ghost use Rattle.events.specs.Written.{cause_letter, side_letter, known_letter};
+ghost use Rattle.events.specs.Carried.{cause_letter, side_letter, known_letter};
 
 use crate::field::FromField;
 use method::finding::{Cause, Side};

@@ -1,10 +1,10 @@
 // Events read from lines. All is inlined where a line is served, so that an event, which may be large, is not stored on the way;
-// only the parts of an estimate and of a correction are read by calls, since inlining ends at some size.
+// only the parts of an estimate and of a correction are read by calls, since the whole would grow too large to be inlined.
 ghost use Rattle.std.specs.Prelude.{◌≡◌, ◌≤◌, length, IfOk};
 ghost use Rattle.events.specs.declared.event.Event.TheVariants.{Take, HandBack, Bill, Estimate, Correct, Pay};
 ghost use Rattle.events.specs.Lines.{fields as fields_of, placed};
 ghost use Rattle.events.specs.Events.{t_line, h_line, b_line, e_line, c_line, p_line, event, event_in, event_from, event_of};
-ghost use Rattle.events.specs.RoundTrip.{WritesAs};
+ghost use Rattle.events.specs.RoundTrip.{IsLineOf};
 ghost use Rattle.events.specs.FieldsLeft.{fields_left, made, Handed};
 
 use crate::correction::correct_parts;
@@ -168,11 +168,11 @@ fn read_form(line: &[u8]) -> Result<Event, ReaderFault>
     }
 }
 
-/// The event that a line carries. The line is the one that is written for that event.
+/// The event that a line carries; the line is then the one that is written for it.
 #[inline(always)]
 pub fn read_event(line: &[u8]) -> Result<Event, ReaderFault>
     ensures value { result ≡ event_of line.now }
-    ensures written { IfOk result (λ event. WritesAs line.now event) }
+    ensures written { IfOk result (λ event. IsLineOf line.now event) }
 {
     if line.len() > 140 {
         return Err(ReaderFault::TooLong);

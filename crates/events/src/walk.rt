@@ -10,7 +10,7 @@ use crate::field::FromField;
 use crate::fields::Fields;
 use crate::letters::Unused;
 
-/// How many commas stand in it: a plain loop, which the compiler takes many bytes at a time.
+/// How many commas `rest` has. A plain loop, which the compiler takes many bytes at a time.
 fn commas(rest: &[u8]) -> usize
     ensures { result ≡ count_by (λ b. b == 44) rest.now }
 {
@@ -46,7 +46,7 @@ impl<'a> Fields<'a> {
         }
     }
 
-    /// The form asks for so many fields.
+    /// Refuses a line that has not as many fields as its form asks.
     #[inline(never)]
     pub(crate) fn require_count(&self, asked: usize) -> Result<(), ReaderFault>
         ensures value { result ≡ (if nat_eq (length (fields_left self.now)) asked then Ok tt else Err Shape) }
@@ -89,7 +89,7 @@ impl<'a> Fields<'a> {
         Ok(value)
     }
 
-    /// The fields that are left hold 0.
+    /// Refuses the first field left that does not hold 0.
     pub(crate) fn unused(mut self) -> Result<(), ReaderFault>
         ensures value { result ≡ unused (fields_left self.entry) }
     {

@@ -1,13 +1,13 @@
 // Events written as lines.
 ghost use Rattle.std.specs.Prelude.{◌≡◌, ◌∷◌, [], map, length, take, OnOk, IfOk, IfErr};
 ghost use Rattle.std.specs.List.{list_all};
-ghost use Rattle.page.specs.Pages.{Wrote, fitted, padded};
+ghost use Rattle.page.specs.Writes.{Wrote, fitted, padded};
 ghost use Rattle.page.specs.Answered.{cleared};
-ghost use Rattle.events.specs.Written.{is_short, fields_of};
+ghost use Rattle.events.specs.Carried.{is_short, fields_of};
 ghost use Rattle.events.specs.declared.unwritten.Unwritten.TheVariants.{NoLine};
 ghost use Rattle.events.specs.declared.event.Event.TheVariants.{Correct};
 ghost use Rattle.events.specs.RoundTrip.{ReadsAs, NeverRead};
-ghost use Rattle.events.specs.Writing.{text_of, line_end, Written};
+ghost use Rattle.events.specs.Writing.{text_of, line_end, Written, EventWritten};
 
 use crate::cell::Cell;
 use crate::cells::{basis_fields, bill_fields, estimate_fields, finding_fields};
@@ -27,7 +27,7 @@ fn put_line(letter: u8, fields: &[Cell], page: &mut Page) -> Result<(), Full>
     page.push(b'\n')
 }
 
-/// How many bytes such a line has, where it fits the page.
+/// Writes such a line and zeros after it: how many bytes the line has, where it fits the page.
 fn fill_page(letter: u8, fields: &[Cell], page: &mut [u8]) -> Result<usize, Full>
     ensures value { result ≡ fitted (length page.old) (line_end ((letter ∷ []) ∷ map text_of fields.now)) }
     ensures after { OnOk result (page.new ≡ padded (length page.old) (line_end ((letter ∷ []) ∷ map text_of fields.now))) }
@@ -44,7 +44,7 @@ fn are_short(fields: &[Cell]) -> bool
     fields.iter().all(Cell::is_short)
 }
 
-/// How many bytes such a line has, where it can be written; a refused one leaves anything on the page.
+/// Writes such a line, where it can be written: how many bytes it has. A refused one leaves anything on the page.
 fn write_fields(letter: u8, fields: &[Cell], page: &mut [u8]) -> Result<usize, Unwritten>
     ensures { Written ((letter ∷ []) ∷ map text_of fields.now) page.old (cleared result page.new) result }
 {
@@ -72,7 +72,7 @@ fn write_correction(
     write_fields(b'C', &fields, page)
 }
 
-/// How many bytes an event's line has; a refused one leaves anything on the page.
+/// Writes an event's line: how many bytes it has. A refused one leaves anything on the page.
 fn write_line(event: Event, page: &mut [u8]) -> Result<usize, Unwritten>
     ensures { Written (fields_of event) page.old (cleared result page.new) result }
 {
@@ -110,7 +110,8 @@ fn write_line(event: Event, page: &mut [u8]) -> Result<usize, Unwritten>
 
 /// Writes an event as a line with its line end: how many bytes it has. A refused event leaves zeros.
 pub fn write_event(event: Event, page: &mut [u8]) -> Result<usize, Unwritten>
-    ensures after { Written (fields_of event) page.old page.new result }
+    ensures after { EventWritten event page.old page.new result }
+    ensures within { IfOk result (λ bytes. bytes ≤ length page.new) }
     ensures read { IfOk result (λ bytes. ReadsAs (take bytes page.new) event) }
     ensures unread { IfErr result (λ why. (why ≡ NoLine) → NeverRead event) }
 {

@@ -3,9 +3,9 @@
 
 mod answer;
 
-ghost use Rattle.std.specs.Prelude.{◌≡◌, length};
+ghost use Rattle.std.specs.Prelude.{◌≡◌, ◌≤◌, length};
 ghost use Rattle.tariff.specs.Hotel.{numbered};
-ghost use Rattle.statements.specs.Office.{opened_on, asked, Stated, LawfulPage};
+ghost use Rattle.statements.specs.Stated.{opened_on, StatedFor, LawfulPage};
 
 pub use answer::Answer;
 
@@ -13,9 +13,9 @@ pub use answer::Answer;
 /// clauses are the statement's, said again: no contract passes through a call by itself.
 #[unsafe(no_mangle)]
 pub extern "C" fn maqdylez_statement(tariff: u32, opening: u32, text: &[u8], page: &mut [u8]) -> Answer
-    ensures after { Stated (numbered tariff) (opened_on opening) (asked tariff opening text.now (length page.old))
-        text.now page.old page.new result.number result.value }
+    ensures after { StatedFor tariff opening text.now page.old page.new result.number result.value }
     ensures law { result.number ≡ 0 → LawfulPage (numbered tariff) (opened_on opening) text.now page.new }
+    ensures within { result.value ≤ length page.new }
 {
     statements::statement::statement(tariff, opening, text, page).into()
 }

@@ -7,7 +7,7 @@ use Rattle.std.proofs.lemmas.List.Concat.{flat_map-append}
 use Rattle.std.proofs.lemmas.Bool.{le-leb, lt-leb, cases_lt}
 use Rattle.page.specs.declared.kept.Page.{Page}
 use Rattle.page.specs.declared.writes.Full.{Full}
-use Rattle.page.specs.Pages.{held, put, kept, Wrote, fitted}
+use Rattle.page.specs.Writes.{held, put, kept, Wrote, fitted}
 
 -- two writes are one
 pub put_put : (n : ℕ) (o : Option (List ℕ)) (t u : List ℕ) → put n (put n o t) u ≡ put n o (t ++ u)

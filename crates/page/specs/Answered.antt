@@ -1,6 +1,7 @@
 -- What a call answers and leaves, if it writes its result on a page. Assumes nothing.
-use Rattle.std.specs.Prelude.{◌≡◌, ℕ, ◌-◌, Bool, cond, List, ◌++◌, length, replicate, Ok, Err, Result, ◌==◌}
+use Rattle.std.specs.Prelude.{◌≡◌, ℕ, Bool, cond, List, length, replicate, Ok, Err, Result, ◌==◌}
 use Rattle.rules.specs.Questions.{first_no}
+use Rattle.page.specs.Writes.{padded}
 
 -- an accepted call has the bytes of its result for its value
 abbrev pub value_for : (number : ℕ) → (written : List ℕ) → ℕ
@@ -8,7 +9,7 @@ value_for number written = cond (number == 0) (length written) 0
 
 -- its page of n bytes holds the result and then zeros; a refused one leaves zeros
 abbrev pub page_for : (n number : ℕ) → (written : List ℕ) → List ℕ
-page_for n number written = cond (number == 0) (written ++ replicate (n - length written) 0) (replicate n 0)
+page_for n number written = cond (number == 0) (padded n written) (replicate n 0)
 
 -- a call with this result asked these questions, answered number and value, and left the page so
 pub record Answered (questions : List (ℕ × Bool)) (written before left : List ℕ) (number value : ℕ) : Type 0 where

@@ -1,8 +1,8 @@
 // A page lent by the caller, as it is kept.
 ghost use Rattle.std.specs.Prelude.{◌≤◌, length};
 
-/// The first `at` bytes are written. The bytes are a slice that C lends through `statement`, so what is written is a
-/// count beside them. No book of bytes: a text is written whole or not at all.
+/// The first `at` bytes are written. The bytes are the caller's, so a count stands beside them. No book of bytes, since a
+/// text is written whole or not at all.
 #[derive(Drop)]
 pub struct Page<'a> {
     pub(crate) bytes: &'a mut [u8],

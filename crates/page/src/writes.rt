@@ -5,14 +5,14 @@
 // statement of short lines up to two fifths slower.
 ghost use Rattle.std.specs.Prelude.{◌≡◌, [], ◌∷◌, length, decimal};
 ghost use Rattle.std.specs.Fmt.{signed_decimal};
-ghost use Rattle.page.specs.Pages.{held, Wrote, padded};
+ghost use Rattle.page.specs.Writes.{held, Wrote, padded};
 
 use crate::digits::count_digits;
 use crate::kept::Page;
 use figures::money::Money;
 use itoa::write_digits;
 
-/// What was to be written does not fit the page. Not the book's `Full`, which rises by `?` nowhere.
+/// What was to be written does not fit the page. A refused write leaves anything on it.
 #[derive(Clone, Copy)]
 pub struct Full;
 

@@ -4,14 +4,14 @@ use Rattle.rules.specs.Subject.{Method, day_units, peak_units}
 use Rattle.rules.specs.Sharing.{whole}
 use Rattle.sheet.specs.declared.laying.Sharing.{Sharing}
 
--- V and W are weights of at most n rows together
+-- V day weight and W peak weight are no more than n rows can have together
 pub record Weighed (m : Method) (n V W : ℕ) : Type 0 where
   pub day : V ≤ 1000000000 * n
   pub peak : W ≤ 1000000000 * n
   pub day_product : V * m.upper day_units ≤ 10000000000000000 * n
   pub peak_product : W * m.upper peak_units ≤ 10000000000000000 * n
 
--- v and w are the weights of one row
+-- v and w are no more than one row can have
 abbrev pub Light : Method → (v w : ℕ) → Type 0
 Light m v w = Weighed m 1 v w
 

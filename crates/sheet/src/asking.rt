@@ -55,8 +55,8 @@ impl<'a> Found<'a> {
         true
     }
 
-    /// Whether every share of the rows that a correction rewrites keeps the limit. The rows are asked together first, since that
-    /// divides once a register and not once a row.
+    /// Whether every share of the rows that a correction rewrites keeps the limit. The rows are asked together first: that divides
+    /// once for each register, and not once for each register of each row.
     pub fn shares_fit<M: Method>(&self, m: &M) -> bool
         requires { length self.now.rows.now ≤ 120 }
         ensures { result ≡ all_fit (rewritten (finding_of self.now.finding) 0 (corrected (finding_of self.now.finding) (M.Method.meaning m.now) 0 0 0 (periods self.now.rows.now))) }

@@ -14,7 +14,7 @@ use figures::units::{Register, Registers, Units};
 use method::finding::Cause;
 use method::method::Method;
 
-/// The weights of a row, or its shares.
+/// A number for each energy register: weights, shares or whole units.
 #[derive(Clone, Copy)]
 pub(crate) struct Pair {
     pub day: u64,
@@ -22,7 +22,7 @@ pub(crate) struct Pair {
 }
 
 impl Pair {
-    /// Whether both shares keep the limit: a yes or no, since a correction asks this of all its rows before it lays any down.
+    /// Whether both keep the limit of a share: a yes or no, since a correction asks this of all its rows before it lays any down.
     pub(crate) fn fit(self) -> bool
         ensures { result ≡ pair_fits self.day self.peak }
     {

@@ -13,7 +13,7 @@ use Rattle.desk.specs.Lawful.{call_after}
 use Rattle.desk.proofs.Runs.{answered_so, answered_after}
 use Rattle.page.specs.declared.kept.Page.{Page}
 use Rattle.page.specs.declared.writes.Full.{Full}
-use Rattle.page.specs.Pages.{Wrote}
+use Rattle.page.specs.Writes.{Wrote}
 use Rattle.statements.specs.Texts.{told}
 use Rattle.statements.specs.Statement.{calls, replies}
 use Rattle.page.proofs.Steps.{◌then◌, wrote_none, stopped, spelled_as}

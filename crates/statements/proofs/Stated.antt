@@ -11,7 +11,7 @@ use Rattle.statements.specs.Statement.{calls, result_text}
 use Rattle.statements.specs.declared.refused.Refused.{Refused}
 use Rattle.statements.specs.declared.refused.Refused.TheVariants.{Figures, Page, Text}
 use Rattle.statements.specs.Refusals.{number_of}
-use Rattle.statements.specs.Office.{Stated, LawfulPage}
+use Rattle.statements.specs.Stated.{Stated, LawfulPage}
 
 -- an accepted page shows an account that keeps the law
 lawful_page : (t : Tariff) (o : Opening) (text page : List ℕ) (n number : ℕ) → page ≡ page_for n number (result_text t o (lines text)) → number ≡ 0 → LawfulPage t o text page

@@ -1,4 +1,4 @@
 pub mod Texts
 pub mod Statement
 pub mod Refusals
-pub mod Office
+pub mod Stated

@@ -2,7 +2,7 @@
 ghost use Rattle.std.specs.Prelude.{◌≡◌};
 ghost use Rattle.figures.specs.View.{letter_of, line_seen};
 ghost use Rattle.desk.specs.Called.{outcome_of};
-ghost use Rattle.page.specs.Pages.{Wrote};
+ghost use Rattle.page.specs.Writes.{Wrote};
 ghost use Rattle.statements.specs.Texts.{layer_letter, line_letter, row_text, answer_line, told, journal_line, sums_line};
 
 use desk::fault::{Fault, Layer};

@@ -1,4 +1,4 @@
-// The statement that an office asks for of an account: the answers to a text of events, the journal and the sums.
+// The statement of an account: the answers to a text of events, the journal and the sums.
 #![tactic(auto)]
 
 mod entries;

@@ -1,4 +1,4 @@
-// Why the office makes no statement.
+// Why there is no statement.
 ghost use Rattle.std.specs.Prelude.{◌≡◌, Some};
 ghost use Rattle.statements.specs.declared.refused.Refused.TheVariants.{Figures, Page};
 ghost use Rattle.statements.specs.Refusals.{refused_number, message};

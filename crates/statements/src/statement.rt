@@ -1,10 +1,10 @@
-// The statement that the office asks for.
+// The statement of a text.
 ghost use Rattle.std.specs.Prelude.{◌≡◌, ◌≤◌, [], ◌∷◌, length, Ok, Err, IfOk};
 ghost use Rattle.rules.specs.Questions.{is_day};
 ghost use Rattle.tariff.specs.Hotel.{numbered};
 ghost use Rattle.tariff.specs.Meaning.{changed};
 ghost use Rattle.tariff.specs.Meant.{plain_of, by_demand_of};
-ghost use Rattle.statements.specs.Office.{opened_on, text_asked, asked, Stated, LawfulPage};
+ghost use Rattle.statements.specs.Stated.{opened_on, text_asked, Stated, StatedFor, LawfulPage};
 ghost use Rattle.page.specs.Answered.{value_of, cleared};
 ghost use Rattle.statements.specs.Refusals.{number_of};
 
@@ -20,8 +20,7 @@ use tariff::hotel::{h1, h2, h2_time_of_day};
 use tariff::plain::Plain;
 use tariff::tariff::Tariff;
 
-/// The statement of a text under one tariff; a refused one leaves anything on the page. Its promise is said here, where the
-/// tariff is chosen, and where the page is cleared, each time of another page or another tariff.
+/// The statement of a text under one tariff; a refused one leaves anything on the page.
 fn statement_under<T: Tariff + Drop>(
     tariff: T,
     opening: u64,
@@ -59,8 +58,7 @@ fn statement_numbered(
     text: &[u8],
     page: &mut [u8],
 ) -> Result<usize, Refused>
-    ensures { Stated (numbered tariff) (opened_on opening) (asked tariff opening text.now (length page.old))
-        text.now page.old (cleared result page.new) (number_of result) (value_of result) }
+    ensures { StatedFor tariff opening text.now page.old (cleared result page.new) (number_of result) (value_of result) }
 {
     match tariff {
         1 => statement_under(h1(Kva(10))?, opening, text, page),
@@ -74,8 +72,7 @@ fn statement_numbered(
 /// The statement of a text under the tariff of this number, for an account that opens on this day: the bytes of its
 /// result. A refused one leaves zeros.
 pub fn statement(tariff: u32, opening: u32, text: &[u8], page: &mut [u8]) -> Result<usize, Refused>
-    ensures after { Stated (numbered tariff) (opened_on opening) (asked tariff opening text.now (length page.old))
-        text.now page.old page.new (number_of result) (value_of result) }
+    ensures after { StatedFor tariff opening text.now page.old page.new (number_of result) (value_of result) }
     ensures law { number_of result ≡ 0 → LawfulPage (numbered tariff) (opened_on opening) text.now page.new }
     ensures within { IfOk result (λ bytes. bytes ≤ length page.new) }
 {

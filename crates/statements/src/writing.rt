@@ -3,7 +3,7 @@ ghost use Rattle.std.specs.Prelude.{◌≡◌, [], length, OnOk};
 ghost use Rattle.rules.specs.Machine.{after, shown};
 ghost use Rattle.account.specs.State.{state_of, opening_of};
 ghost use Rattle.events.specs.Lines.{lines};
-ghost use Rattle.page.specs.Pages.{Wrote, fitted, padded};
+ghost use Rattle.page.specs.Writes.{Wrote, fitted, padded};
 ghost use Rattle.statements.specs.Statement.{shown_text, result_text};
 
 use crate::entries::{answer, journal, sums};

@@ -2,7 +2,7 @@ use Rattle.std.proofs.Common.{rules, sym, ◌∙◌}
 use Rattle.std.proofs.lemmas.Iterator.{YieldsList-from_slice}
 use Rattle.std.proofs.lemmas.Iterator.Search.{all_from_yields_List}
 use Rattle.std.proofs.lemmas.List.Folds.{list_all-map}
-use Rattle.events.specs.Written.{is_short}
+use Rattle.events.specs.Carried.{is_short}
 use Rattle.events.specs.Writing.{text_of}
 use Rattle.events.proofs.write.are_short.Goals as goal
 

@@ -1,6 +1,6 @@
 use Rattle.std.proofs.Common.{Ok, ◌∷◌, map, take}
 use Rattle.std.specs.List.{flat_map}
-use Rattle.page.specs.Pages.{Wrote}
+use Rattle.page.specs.Writes.{Wrote}
 use Rattle.events.specs.Writing.{text_of}
 use Rattle.events.proofs.write.put_line.Given as goal
 

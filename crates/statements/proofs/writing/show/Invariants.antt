@@ -1,7 +1,7 @@
 use Rattle.std.proofs.Common.{Ok, map, take}
 use Rattle.std.specs.List.{flat_map}
 use Rattle.figures.specs.View.{line_seen}
-use Rattle.page.specs.Pages.{Wrote}
+use Rattle.page.specs.Writes.{Wrote}
 use Rattle.statements.specs.Texts.{journal_line}
 use Rattle.statements.proofs.writing.show.Given as goal
 

@@ -1,4 +1,4 @@
--- The line that is written for an event. Assumes nothing.
+-- The line that carries an event. Assumes nothing.
 use Rattle.std.specs.Prelude.{ℕ, Bool, true, false, List, [], ◌∷◌, ◌++◌, length, codes, decimal, nat_le}
 use Rattle.std.specs.List.{list_all, join_with_byte}
 use Rattle.method.specs.declared.finding.Cause.{Cause}
@@ -66,9 +66,10 @@ fields_of (Pay hold cents) = codes "P" ∷ decimal hold ∷ decimal cents.0 ∷ 
 abbrev pub line_of : Event → List ℕ
 line_of e = join_with_byte 44 (fields_of e)
 
--- a line can carry an event if no field has more than 13 bytes
+-- a field has at most 13 bytes
 abbrev pub is_short : List ℕ → Bool
 is_short f = nat_le (length f) 13
 
+-- a line can carry an event of whose fields each has
 abbrev pub is_carried : Event → Bool
 is_carried e = list_all is_short (fields_of e)

@@ -1,4 +1,4 @@
--- What a page holds. Assumes nothing.
+-- What is written on a page. Assumes nothing.
 use Rattle.std.specs.Prelude.{◌≡◌, ℕ, ◌+◌, ◌-◌, cond, List, ◌++◌, length, take, replicate, Some, None, Ok, Err, Option, Result, nat_le}
 use Rattle.page.specs.declared.kept.Page.{Page}
 use Rattle.page.specs.declared.writes.Full.{Full}
@@ -17,7 +17,7 @@ abbrev pub kept : Page → Result (Unit {0}) Full → Option (List ℕ)
 kept p (Ok done) = Some (held p)
 kept p (Err full) = None
 
--- t was written on the page p, which is then q, or it did not fit there
+-- t was written on the page p, which is then q, or it did not fit there, and what q then holds is open
 pub record Wrote (p q : Page) (r : Result (Unit {0}) Full) (t : List ℕ) : Type 0 where
   pub lent : q.bytes.ghost_name ≡ p.bytes.ghost_name
   pub long : length q.bytes.now ≡ length p.bytes.now

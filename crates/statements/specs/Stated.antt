@@ -1,14 +1,15 @@
--- What the office's statement asks, answers and leaves on the page. Assumes nothing.
-use Rattle.std.specs.Prelude.{◌≡◌, ℕ, ◌-◌, Bool, ◌&&◌, List, [], ◌∷◌, ◌++◌, length, replicate, nat_le}
+-- What a statement asks, answers and leaves on the page. Assumes nothing.
+use Rattle.std.specs.Prelude.{◌≡◌, ℕ, Bool, ◌&&◌, List, [], ◌∷◌, ◌++◌, length, nat_le}
 use Rattle.rules.specs.Subject.{Tariff, Opening}
 use Rattle.rules.specs.Questions.{is_day}
 use Rattle.rules.specs.Law.{Shown, Law}
 use Rattle.tariff.specs.Hotel.{numbered}
 use Rattle.events.specs.Lines.{lines}
+use Rattle.page.specs.Writes.{padded}
 use Rattle.page.specs.Answered.{Answered}
 use Rattle.statements.specs.Statement.{calls, replies, shown_text, result_text}
 
--- an account with room for 120 rows and 1,024 lines
+-- an account that opens on this day, with room for 120 rows and 1,024 lines
 abbrev pub opened_on : (day : ℕ) → Opening
 opened_on day = record { day = day; sheet = 120; journal = 1024 }
 
@@ -30,8 +31,12 @@ asked tariff day text n = (2, is_tariff tariff) ∷ (2, is_day day) ∷ text_ask
 abbrev pub Stated : Tariff → Opening → (questions : List (ℕ × Bool)) → (text before left : List ℕ) → (number value : ℕ) → Type 0
 Stated t o questions text before left number value = Answered questions (result_text t o (lines text)) before left number value
 
+-- the statement under a tariff's number, of an account that opens on a day, answered number and value, and left the page so
+abbrev pub StatedFor : (tariff day : ℕ) → (text before left : List ℕ) → (number value : ℕ) → Type 0
+StatedFor tariff day text before left number value = Stated (numbered tariff) (opened_on day) (asked tariff day text (length before)) text before left number value
+
 -- the account that the page shows keeps the law over the calls that the text makes
 pub record LawfulPage (t : Tariff) (o : Opening) (text page : List ℕ) : Type 0 where
   pub account : Shown
   pub law : Law t o (calls o [] (lines text)) account
-  pub shows : let written : List ℕ = replies t o [] (lines text) ++ shown_text account in page ≡ written ++ replicate (length page - length written) 0
+  pub shows : page ≡ padded (length page) (replies t o [] (lines text) ++ shown_text account)
