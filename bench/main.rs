@@ -64,7 +64,7 @@ fn plainly(tariff: u32, opening: u32, text: &[u8], page: &mut [u8]) -> Answer {
 }
 
 /// More than the longest result: nine bytes of page for a line of one byte, and the journal.
-const WIDEST_PAGE: usize = 700_000;
+const WIDEST_PAGE: usize = 640_000;
 const SEED: u64 = 20_000_101;
 
 /// Compares the two, and counts what is compared and which refusals are met.

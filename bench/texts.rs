@@ -79,7 +79,7 @@ struct Session<'a> {
     next_day: u64,
 }
 
-/// A session of at most about this many bytes.
+/// A session of about this many bytes, and rather more.
 pub fn session(dice: &mut Dice, opening: u64, bytes: usize) -> Vec<u8> {
     let now = dice.below(1_000_000);
     let mut session = Session {
@@ -131,7 +131,7 @@ impl Session<'_> {
         }
     }
 
-    /// A line that no account accepts, or not as it stands.
+    /// A line that an account may well refuse.
     fn stray(&mut self) {
         let (now, hold) = (self.now, self.hold);
         let any = self.dice.any_figure();
@@ -404,7 +404,7 @@ pub fn loose(dice: &mut Dice, lines: u64) -> Vec<u8> {
     text.into_bytes()
 }
 
-/// Damages a text in up to this many places: bytes changed, dropped, doubled or put in, and lines swapped, dropped or joined.
+/// Damages a text in up to this many places: bytes changed, dropped, doubled or put in, and lines swapped or joined.
 pub fn damage(dice: &mut Dice, text: &mut Vec<u8>, places: u64) {
     const ODD: &[u8] = b"\n\n,,,0019-+ \r\0\x7f\x80\xff/:TBEPHCtbMPLDAUOSXcsyn";
     for _ in 0..places {

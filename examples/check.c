@@ -7,7 +7,7 @@
 /* Room before and after the page, which no call may touch. */
 enum { ROOM = 64 };
 
-static uint8_t memory[ROOM + MAQDYLEZ_LARGEST_PAGE + ROOM];
+static uint8_t memory[ROOM + MAQDYLEZ_PAGE_FOR_ALL + ROOM];
 static uint8_t longest[MAQDYLEZ_LONGEST_TEXT + 1];
 static int failed;
 
@@ -34,6 +34,16 @@ static void check(const char *what, uint32_t tariff, uint32_t opening, const uin
     failed |= !well;
 }
 
+/* Whether a page that begins at an odd address holds this statement. */
+static void check_bytes(const char *what, const uint8_t *text, size_t text_len, const char *statement)
+{
+    size_t bytes = strlen(statement);
+    maqdylez_answer answer = maqdylez_statement(1, 0, text, text_len, memory + ROOM + 1, bytes);
+    int well = answer.number == MAQDYLEZ_ACCEPTED && answer.value == bytes && memcmp(memory + ROOM + 1, statement, bytes) == 0;
+    printf("%s%s\n", what, well ? "" : " (wrong)");
+    failed |= !well;
+}
+
 int main(void)
 {
     const uint8_t *take = (const uint8_t *)"T,100,10\n";
@@ -54,9 +64,10 @@ int main(void)
     check("a carriage return, a zero byte, bytes above 127", 1, 0, odd, 17, 100, MAQDYLEZ_ACCEPTED, 33);
 
     memset(longest, '\n', sizeof longest);
-    check("65,536 bytes", 1, 0, longest, MAQDYLEZ_LONGEST_TEXT, MAQDYLEZ_LARGEST_PAGE, MAQDYLEZ_ACCEPTED, 9 * 65536 + 6);
-    check("65,537 bytes", 1, 0, longest, MAQDYLEZ_LONGEST_TEXT + 1, MAQDYLEZ_LARGEST_PAGE, MAQDYLEZ_TEXT, 0);
+    check("65,536 bytes", 1, 0, longest, MAQDYLEZ_LONGEST_TEXT, MAQDYLEZ_PAGE_FOR_ALL, MAQDYLEZ_ACCEPTED, 9 * 65536 + 6);
+    check("65,537 bytes", 1, 0, longest, MAQDYLEZ_LONGEST_TEXT + 1, MAQDYLEZ_PAGE_FOR_ALL, MAQDYLEZ_TEXT, 0);
     check("tariff before text", 0, 0, longest, 0, 0, MAQDYLEZ_FIGURES, 0);
     check("text before page", 1, 0, longest, 0, 0, MAQDYLEZ_TEXT, 0);
+    check_bytes("its bytes", take, 9, "A,a,0,1\nS,0,0\n");
     return failed;
 }

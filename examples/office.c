@@ -6,7 +6,7 @@
 
 /* One byte more than a text may have, so that a file that is too long is seen to be. */
 static uint8_t text[MAQDYLEZ_LONGEST_TEXT + 1];
-static uint8_t page[MAQDYLEZ_LARGEST_PAGE];
+static uint8_t page[MAQDYLEZ_PAGE_FOR_ALL];
 
 /* The question that a refused statement was asked. */
 static const char *question(uint32_t number)
@@ -58,5 +58,9 @@ int main(int argc, char **argv)
         fprintf(stderr, "office: refused by question %u: %s\n", (unsigned)answer.number, question(answer.number));
         return 1;
     }
-    return fwrite(page, 1, (size_t)answer.value, stdout) == answer.value ? 0 : 1;
+    if (fwrite(page, 1, (size_t)answer.value, stdout) != answer.value || fflush(stdout) != 0) {
+        perror("office");
+        return 1;
+    }
+    return 0;
 }

@@ -3,11 +3,13 @@
  *
  * A text of events goes in: who took the account, which readings were billed, which were corrected, what was paid, one
  * event a line. A page comes out: an answer to each line, then the account's journal, then its balance and amount due.
- * docs/FORMATS.md has the lines of both.
+ * Each call opens the account anew, so a text is its whole history. A line ends with byte 10 alone: before it a carriage
+ * return, or at the text's beginning a byte order mark, makes a line unlawful. docs/FORMATS.md has the lines of both.
  *
- * Link with the archive crates/office/out/liboffice.a, which `rt lib` makes in crates/office. It needs no library but C's,
- * takes no memory but about 40 kilobytes of the stack, keeps nothing between calls, and may be called from several
- * threads at a time, each with a page of its own.
+ * Link with the archive crates/office/out/liboffice.a, which `rt lib` makes in crates/office, for Linux on x86-64 of level
+ * v2 or more. It needs no library but C's, takes no memory but less than 40 kilobytes of the stack, and keeps nothing
+ * between calls. It may be called from several threads at a time, each with a page of its own and a text that nobody
+ * changes meanwhile.
  */
 #ifndef MAQDYLEZ_H
 #define MAQDYLEZ_H
@@ -21,7 +23,7 @@ extern "C" {
 
 /* The numbers of an answer. */
 enum {
-    MAQDYLEZ_ACCEPTED = 0, /* the page holds the statement */
+    MAQDYLEZ_ACCEPTED = 0, /* the page holds the statement; lines that were refused are told on it, in its A lines */
     MAQDYLEZ_FIGURES = 2,  /* the tariff's number is not 1 to 4, or the opening day not 0 to 18262 */
     MAQDYLEZ_PAGE = 21,    /* the statement does not fit the page */
     MAQDYLEZ_TEXT = 22     /* the text is empty, or longer than MAQDYLEZ_LONGEST_TEXT */
@@ -30,8 +32,11 @@ enum {
 /* The longest text, in bytes. */
 #define MAQDYLEZ_LONGEST_TEXT 65536
 
-/* A page of so many bytes has room for the statement of every text. */
-#define MAQDYLEZ_LARGEST_PAGE 1614000
+/*
+ * A page of so many bytes has room for the statement of every text. A longer page is lawful too; all of a page is written,
+ * so that a large one costs as much at each call.
+ */
+#define MAQDYLEZ_PAGE_FOR_ALL 640000
 
 typedef struct maqdylez_answer {
     uint32_t number; /* 0, or the question that was answered no */
@@ -46,8 +51,8 @@ typedef struct maqdylez_answer {
  * text     text_len bytes, a line for each event; no zero byte need follow
  * page     page_len bytes, all of which are written: the statement and then zeros, or zeros alone where it is refused
  *
- * Neither pointer may be null, also where its length is 0. Text and page must not overlap. Nothing outside the page is
- * written. The questions are put in this order: MAQDYLEZ_FIGURES, MAQDYLEZ_TEXT, MAQDYLEZ_PAGE.
+ * Neither pointer may be null, also where its length is 0, and neither has to be aligned. Text and page must not overlap.
+ * Nothing outside the page is written. The questions are put in this order: MAQDYLEZ_FIGURES, MAQDYLEZ_TEXT, MAQDYLEZ_PAGE.
  */
 maqdylez_answer maqdylez_statement(uint32_t tariff, uint32_t opening, const uint8_t *text, size_t text_len, uint8_t *page,
                                    size_t page_len);

@@ -1,5 +1,5 @@
 // Events written as lines.
-ghost use Rattle.std.specs.Prelude.{◌≡◌, ◌∷◌, [], map, length, take, OnOk, IfOk, IfErr};
+ghost use Rattle.std.specs.Prelude.{◌≡◌, ◌≤◌, ◌∷◌, [], map, length, take, OnOk, IfOk, IfErr};
 ghost use Rattle.std.specs.List.{list_all};
 ghost use Rattle.page.specs.Writes.{Wrote, fitted, padded};
 ghost use Rattle.page.specs.Answered.{cleared};

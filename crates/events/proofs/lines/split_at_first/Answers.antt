@@ -1,4 +1,4 @@
-use Rattle.std.proofs.Common.{◌≡◌, ◌+◌, ◌==◌, sym, ◌∙◌, arith}
+use Rattle.std.proofs.Common.{◌+◌, sym, ◌∙◌, arith}
 use Rattle.std.proofs.lemmas.List.{take_rest, take_all}
 use Rattle.events.proofs.Found.{found_some, found_none}
 use Rattle.events.proofs.lines.split_at_first.Goals as goal
