@@ -1,22 +1,31 @@
 -- What an answer of the writer says of reading. Assumes nothing.
-use Rattle.std.proofs.Common.{◌≡◌, ℕ, Bool, true, false, cond, List, [], ◌∷◌, ◌++◌, length, take, Ok, Err, Result, refl, sym, ap, ◌∙◌, subst}
+use Rattle.std.proofs.Common.{◌≡◌, ℕ, ◌≤◌, Bool, true, false, cond, List, [], ◌∷◌, ◌++◌, length, take, Ok, Err, Result, refl, sym, ap, ◌∙◌, subst, le-ltb}
 use Rattle.std.specs.Result.{IfOk, IfErr}
+use Rattle.std.proofs.lemmas.Bool.{cond-false}
 use Rattle.std.proofs.Math.Seq.{take-append_seam}
 use Rattle.page.specs.Answered.{cleared}
 use Rattle.events.specs.declared.event.Event.{Event}
 use Rattle.events.specs.declared.fault.ReaderFault.{ReaderFault}
 use Rattle.events.specs.declared.unwritten.Unwritten.{Unwritten}
 use Rattle.events.specs.declared.unwritten.Unwritten.TheVariants.{NoLine, Page}
-use Rattle.events.specs.Events.{event_of}
+use Rattle.events.specs.Lines.{fields}
+use Rattle.events.specs.Events.{event_from, event_of}
 use Rattle.events.specs.Carried.{fields_of, line_of, is_carried}
 use Rattle.events.specs.Writing.{Written}
 use Rattle.events.specs.RoundTrip.{ReadsAs, NeverRead, IsLineOf}
 use Rattle.events.proofs.ReadBack.{reads_as}
 use Rattle.events.proofs.Written.{line_written}
 
-pub writes_as : (line : List ℕ) (r : Result Event ReaderFault) → r ≡ event_of line → IfOk r (λ e. IsLineOf line e)
+writes_as : (line : List ℕ) (r : Result Event ReaderFault) → r ≡ event_of line → IfOk r (λ e. IsLineOf line e)
 writes_as line (Ok e) is = let w = line_written line e (sym is) in (sym w.0, w.1)
 writes_as line (Err f) is = tt
+
+-- a line that is short enough
+pub read_short : (line : List ℕ) (r : Result Event ReaderFault) → length line ≤ 140 → r ≡ event_from (fields line) → r ≡ event_of line
+read_short line r short is = is ∙ sym (cond-false _ _ _ (le-ltb 140 (length line) short))
+
+pub written_short : (line : List ℕ) (r : Result Event ReaderFault) → length line ≤ 140 → r ≡ event_from (fields line) → IfOk r (λ e. IsLineOf line e)
+written_short line r short is = writes_as line r (read_short line r short is)
 
 accepted : (c f : Bool) → ◌≡◌ {A = ℕ} 0 (cond c (cond f 0 21) 19) → c ≡ true
 accepted true f e = refl

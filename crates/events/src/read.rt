@@ -170,6 +170,7 @@ fn read_form(line: &[u8]) -> Result<Event, ReaderFault>
 
 /// The event that a line carries; the line is then the one that is written for it.
 #[inline(always)]
+#[tactic(auto, using(crate::proofs::RoundTrip::read_short, crate::proofs::RoundTrip::written_short))]
 pub fn read_event(line: &[u8]) -> Result<Event, ReaderFault>
     ensures value { result ≡ event_of line.now }
     ensures written { IfOk result (λ event. IsLineOf line.now event) }
