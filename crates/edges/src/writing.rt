@@ -150,6 +150,9 @@ fn the_longest_line_is_written_and_read(rt: HostRuntime) {
         b"C,9999999999999,X,s,9999999999999,y,9999999999999,9999999999999,D,9999999999999,9999999999999,9999999999999,9999999999999,9999999999999\n";
     let mut page = [7u8; 136];
     let event = read_event(&line[..135]);
-    assert_eq!(rt; event.ok().map(|event| written(event, &mut page)), Some(Ok(136)));
+    assert_eq!(rt;
+        event.ok().map(|event| written(event, &mut page)),
+        Some(Ok(136))
+    );
     assert!(rt; page == *line);
 }

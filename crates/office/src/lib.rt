@@ -12,7 +12,12 @@ pub use answer::Answer;
 /// The statement of a text under the tariff of this number, by which C names it, for an account that opens on this day. The
 /// clauses are the statement's, said again: no contract passes through a call by itself.
 #[unsafe(no_mangle)]
-pub extern "C" fn maqdylez_statement(tariff: u32, opening: u32, text: &[u8], page: &mut [u8]) -> Answer
+pub extern "C" fn maqdylez_statement(
+    tariff: u32,
+    opening: u32,
+    text: &[u8],
+    page: &mut [u8],
+) -> Answer
     ensures after { StatedFor tariff opening text.now page.old page.new result.number result.value }
     ensures law { result.number ≡ 0 → LawfulPage (numbered tariff) (opened_on opening) text.now page.new }
     ensures within { result.value ≤ length page.new }

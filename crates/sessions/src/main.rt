@@ -6,8 +6,8 @@ mod session;
 ghost use Rattle.std.specs.Prelude.{◌≡◌, ◌↔◌, IsOk};
 
 use anyhow::anyhow;
-use statements::statement::statement;
 use session::{SESSIONS, Session};
+use statements::statement::statement;
 use std::fs;
 use std::process::ExitCode;
 
