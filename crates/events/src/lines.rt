@@ -14,6 +14,10 @@ fn split_at_first(text: &[u8], mark: u8) -> (&[u8], Option<&[u8]>)
         (position_or_len (λ b. b == mark) text.now ≡ length text.now)
         (λ rest. (position_or_len (λ b. b == mark) text.now < length text.now) × (rest.now ≡ after_first (λ b. b == mark) text.now)) }
 {
+    // an empty line is not worth a call
+    if text.first() == Some(&mark) {
+        return (&[], Some(&text[1..]));
+    }
     match memchr(mark, text) {
         Some(end) => (&text[..end], Some(&text[end + 1..])),
         None => (text, None),
