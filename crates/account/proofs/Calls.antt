@@ -5,8 +5,11 @@ use Rattle.std.proofs.lemmas.Bool.{cond-true, cond-false, eq-eqb, ne_eqb, leb-tr
 use Rattle.rules.specs.Subject.{Tariff, Call, Opening}
 use Rattle.rules.specs.Questions.{question, asked, first_no, sheet_room, journal_room}
 use Rattle.std.proofs.lemmas.Result.{err_from_is_err_and}
-use Rattle.rules.specs.Law as law
-use Rattle.rules.specs.Machine.{State, Answer, opened, view, step, effect, worth, after, shown, periods_of}
+use Rattle.rules.specs.Shown as show
+use Rattle.rules.specs.Law.{Law}
+use Rattle.rules.specs.Shown.{Answer}
+use Rattle.rules.specs.Machine.{State, opened, view, step, effect, worth, after, shown, periods_of}
+use Rattle.rules.proofs.Answers.{answers_law}
 use Rattle.rules.proofs.Stands.{account_law}
 use Rattle.book.specs.Pages.{Pages, pages_of, written, appended, fresh}
 use Rattle.book.proofs.Room.{appended_room}
@@ -22,7 +25,8 @@ use Rattle.account.specs.declared.answer.Refusal.{Refusal}
 use Rattle.account.specs.declared.answer.Refusal.TheVariants.{NoHold, Figures, SheetFull, Period, NotBilled, WrongSort, WrongSpan, NoFit, ShareTooLarge, JournalFull, Held, NoNumber}
 use Rattle.sheet.specs.Rows.{rows_of}
 use Rattle.account.specs.Answers.{number_of, answered, Asked}
-use Rattle.account.specs.State.{hold_of, state_of, opening_of, Stepped, LawfulAfter, Changed, Opened}
+use Rattle.account.specs.State.{hold_of, state_of, opening_of, Same, Stepped, LawfulAfter, opened_over, Opened}
+use Rattle.account.specs.Work.{Changed}
 
 -- a filled part is as long as it is filled
 pub taken_length : {X Y : Type 0} (f : X → Y) (n : ℕ) (xs : List X) → n ≤ length xs → length (map f (take n xs)) ≡ n
@@ -113,10 +117,7 @@ module _ {T : Type 0} (mean : T → Tariff) where
         record {
           answer = sym (ap (λ (r : Answer × State). r.0) s);
           state = sym (ap (λ (r : Answer × State). r.1) s);
-          opening = refl;
-          tariff = refl;
-          sheet_past = refl;
-          journal_past = refl;
+          same = record { opening = refl; tariff = refl; sheet_past = refl; journal_past = refl };
         }
 
   -- an accepted call, by its parts
@@ -124,10 +125,7 @@ module _ {T : Type 0} (mean : T → Tariff) where
     pub accepted : question (opening_of a) (view (state_of a)) c ≡ 0
     pub value : v ≡ worth (mean a.tariff) (opening_of a) (state_of a) c
     pub state : state_of b ≡ effect (mean a.tariff) (opening_of a) (state_of a) c
-    pub opening : opening_of b ≡ opening_of a
-    pub tariff : mean b.tariff ≡ mean a.tariff
-    pub sheet_past : drop b.sheet.filled b.sheet.memory.now ≡ drop b.sheet.filled a.sheet.memory.now
-    pub journal_past : drop b.journal.filled b.journal.memory.now ≡ drop b.journal.filled a.journal.memory.now
+    pub same : Same mean a b
 
   pub done : (a b : Account T) (c : Call) (v : ℤ) → Done a b c v → Stepped mean a b c (record { number = 0; value = v })
   done a b c v d =
@@ -135,20 +133,19 @@ module _ {T : Type 0} (mean : T → Tariff) where
       record {
         answer = ap valued d.value ∙ sym (ap (λ (r : Answer × State). r.0) s);
         state = d.state ∙ sym (ap (λ (r : Answer × State). r.1) s);
-        opening = d.opening;
-        tariff = d.tariff;
-        sheet_past = d.sheet_past;
-        journal_past = d.journal_past;
+        same = d.same;
       }
 
-  pub lawful : (a b : Account T) (c : Call) (r : Answer) → Stepped mean a b c r → LawfulAfter mean a b c
+  pub lawful : (a b : Account T) (c : Call) (r : Answer) → Stepped mean a b c r → LawfulAfter mean a b c r
   unfolding after
   lawful a b c r s h e =
       let t = mean a.tariff in
       let o = opening_of a in
       let next : state_of b ≡ after t o (c ∷ h) = s.state ∙ ap (λ (x : State). (step t o x c).1) e in
-      let next' : state_of b ≡ after (mean b.tariff) (opening_of b) (c ∷ h) = next ∙ ap₂ (λ (x : Tariff) (y : Opening). after x y (c ∷ h)) (sym s.tariff) (sym s.opening) in
-      (next', subst (λ (x : State). law.Law (mean b.tariff) (opening_of b) (c ∷ h) (shown x)) (sym next') (account_law (mean b.tariff) (opening_of b) (c ∷ h)))
+      (
+        record { state = next; law = subst (λ (x : State). Law t o (c ∷ h) (shown x)) (sym next) (account_law t o (c ∷ h)) },
+        s.answer ∙ ap (λ (x : State). (step t o x c).0) e ∙ answers_law t o h c,
+      )
 
 pub number_least : (e : Refusal) → 1 ≤ number_of e
 number_least NoHold = omega arith
@@ -165,7 +162,7 @@ number_least Held = omega arith
 number_least NoNumber = omega arith
 
 -- a refused call, at the exit of a `?`: the step refuses, and nothing has changed
-pub refused_by : {T X : Type 0} (mean : T → Tariff) (a : Account T) (c : Call) (worth : X → ℤ) (r : Result X Refusal) (e : Refusal) → IsErrAnd r (λ y. y ≡ e) → question (opening_of a) (view (state_of a)) c ≡ number_of e → Stepped mean a a c (answered worth r) × LawfulAfter mean a a c
+pub refused_by : {T X : Type 0} (mean : T → Tariff) (a : Account T) (c : Call) (worth : X → ℤ) (r : Result X Refusal) (e : Refusal) → IsErrAnd r (λ y. y ≡ e) → question (opening_of a) (view (state_of a)) c ≡ number_of e → Stepped mean a a c (answered worth r) × LawfulAfter mean a a c (answered worth r)
 refused_by mean a c worth r e b q =
     let p = err_from_is_err_and r b in
     let s = refused mean a c (number_of e) q (number_least e) in
@@ -180,7 +177,7 @@ pub place_said : {T : Type 0} (a : Account T) → ltb (length (periods_of (state
 place_said a = ap₂ ltb (periods_length a) (sym a.sheet_limit)
 
 -- an account with other rows, these lines more, and other sums
-abbrev pub made : {T : Type 0} → Account T → List law.Row → List law.Line → Totals → State
+abbrev pub made : {T : Type 0} → Account T → List show.Row → List show.Line → Totals → State
 made a rows ls t = record {
   granted = a.granted;
   holding = hold_of a.holding;
@@ -191,13 +188,13 @@ made a rows ls t = record {
   coming = t.coming;
 }
 
-abbrev made_of : ℕ → Option Questions.Hold → List law.Row → List law.Line → Totals → State
+abbrev made_of : ℕ → Option Questions.Hold → List show.Row → List show.Line → Totals → State
 made_of g h rows lines t = record { granted = g; holding = h; rows = rows; lines = lines; balance = t.balance; due = t.due; coming = t.coming }
 
 abbrev opened_of : (day sheet journal : ℕ) → Opening
 opened_of day sheet journal = record { day = day; sheet = sheet; journal = journal }
 
-module _ {T : Type 0} (mean : T → Tariff) (a b : Account T) (rows : List law.Row) (ls : List law.Line) (t : Totals) (h : Changed mean a b rows ls t) where
+module _ {T : Type 0} (mean : T → Tariff) (a b : Account T) (rows : List show.Row) (ls : List show.Line) (t : Totals) (h : Changed mean a b rows ls t) where
   changed_state : state_of b ≡ made a rows ls t
   changed_state =
       ap₂ (λ g k. made_of g (hold_of k) (rows_of (pages_of b.sheet)) (lines_of (pages_of b.journal)) (totals b.sums)) h.granted h.holding
@@ -210,16 +207,13 @@ module _ {T : Type 0} (mean : T → Tariff) (a b : Account T) (rows : List law.R
       ∙ ap₂ (λ x y. opened_of a.opening.figure x y) h.sheet_size h.journal.size
 
   -- an accepted call that does just this
-  pub changed_done : (c : Call) (v : ℤ) → question (opening_of a) (view (state_of a)) c ≡ 0 → v ≡ worth (mean a.tariff) (opening_of a) (state_of a) c → made a rows ls t ≡ effect (mean a.tariff) (opening_of a) (state_of a) c → Stepped mean a b c (record { number = 0; value = v }) × LawfulAfter mean a b c
+  pub changed_done : (c : Call) (v : ℤ) → question (opening_of a) (view (state_of a)) c ≡ 0 → v ≡ worth (mean a.tariff) (opening_of a) (state_of a) c → made a rows ls t ≡ effect (mean a.tariff) (opening_of a) (state_of a) c → Stepped mean a b c (valued v) × LawfulAfter mean a b c (valued v)
   changed_done c v q w e =
       let s = done mean a b c v (record {
         accepted = q;
         value = w;
         state = changed_state ∙ e;
-        opening = changed_opening;
-        tariff = h.tariff;
-        sheet_past = h.sheet_past;
-        journal_past = h.journal.past;
+        same = record { opening = changed_opening; tariff = h.tariff; sheet_past = h.sheet_past; journal_past = h.journal.past };
       }) in
       (s, lawful mean a b c _ s)
 
@@ -228,13 +222,13 @@ pub appended_by : {T : Type 0} (a : Account T) (l : Line) (q : Pages Line) → a
 appended_by a l q h e = e ∙ appended_room a.journal l (omega arith)
 
 -- a line more, and what the account owes of its journal
-pub grown_by : {T : Type 0} (a : Account T) (l : Line) (x : law.Line) (q : Pages Line) → a.journal.filled + 1 ≤ a.journal.limit → line_seen l ≡ x → q ≡ written (pages_of a.journal) l → Grown (pages_of a.journal) q (x ∷ [])
+pub grown_by : {T : Type 0} (a : Account T) (l : Line) (x : show.Line) (q : Pages Line) → a.journal.filled + 1 ≤ a.journal.limit → line_seen l ≡ x → q ≡ written (pages_of a.journal) l → Grown (pages_of a.journal) q (x ∷ [])
 grown_by a l x q h k e =
     let m = a.journal.within_memory in
     let p = pages_of a.journal in
-    subst (λ (z : law.Line). Grown p q (z ∷ [])) k (subst (λ (z : Pages Line). Grown p z (line_seen l ∷ [])) (sym e) (grown_more p p [] l (omega (arith, h)) (grown_none p)))
+    subst (λ (z : show.Line). Grown p q (z ∷ [])) k (subst (λ (z : Pages Line). Grown p z (line_seen l ∷ [])) (sym e) (grown_more p p [] l (omega (arith, h)) (grown_none p)))
 
-pub grown_limit : {T : Type 0} (a : Account T) (q : Pages Line) (ls : List law.Line) → Grown (pages_of a.journal) q ls → q.limit ≡ min (length q.memory) 1024
+pub grown_limit : {T : Type 0} (a : Account T) (q : Pages Line) (ls : List show.Line) → Grown (pages_of a.journal) q ls → q.limit ≡ min (length q.memory) 1024
 grown_limit a q ls g = g.limit ∙ a.journal_limit ∙ ap (λ n. min n 1024) (sym g.size)
 
 -- an account with nothing in it
@@ -247,13 +241,14 @@ opened_is mean a day sheet journal d g h s p q =
     ap₂ (λ x y. made_of x (hold_of y) (rows_of (pages_of a.sheet)) (lines_of (pages_of a.journal)) (totals a.sums)) g h
     ∙ ap₂ (λ x y. made_of 0 None (rows_of x) (lines_of y) (totals a.sums)) p q
     ∙ ap (made_of 0 None [] []) s in
+    let o : opening_of a ≡ opened_over day sheet journal =
+    ap (λ x. opened_of x (length a.sheet.memory.now) (length a.journal.memory.now)) d ∙ ap₂ (λ x y. opened_of day (length x) (length y)) rows lines in
     record {
       tariff = refl;
-      state = e;
-      opening = ap (λ x. opened_of x (length a.sheet.memory.now) (length a.journal.memory.now)) d ∙ ap₂ (λ x y. opened_of day (length x) (length y)) rows lines;
+      lawful = record { state = e; law = subst (λ (x : State). Law (mean a.tariff) (opened_over day sheet journal) [] (shown x)) (sym e) (account_law (mean a.tariff) (opened_over day sheet journal) []) };
+      opening = o;
       rows = rows;
       lines = lines;
-      law = subst (λ (x : State). law.Law (mean a.tariff) (opening_of a) [] (shown x)) (sym e) (account_law (mean a.tariff) (opening_of a) []);
     }
 
 -- a hold granted

@@ -4,7 +4,8 @@ use Rattle.std.proofs.lemmas.Bool.{and_parts, leb-true, ltb-true}
 use Rattle.rules.specs.Subject.{Tariff, Opening, Finding, Method, correct}
 use Rattle.rules.specs.Laid.{rewritten, corrected}
 use Rattle.rules.specs.Questions.{question, asked, all_fit, bills}
-use Rattle.rules.specs.Machine.{periods_of, view, relay, posts, cents_of, effect}
+use Rattle.rules.specs.Journal.{cents_of}
+use Rattle.rules.specs.Machine.{periods_of, view, relay, posts, effect}
 use Rattle.rules.proofs.Runs.{length-posts}
 use Rattle.book.specs.Pages.{Pages, pages_of}
 use Rattle.figures.specs.declared.line.Line.{Line}

@@ -3,7 +3,7 @@ use Rattle.std.proofs.Common.{◌≡◌, ℕ, ◌+◌, ◌-◌, ◌<◌, ◌≤�
 use Rattle.std.proofs.lemmas.List.{take_all, take_more, take_more_set, map_push, length-set, drop-set-lt}
 use Rattle.rules.specs.Subject.{Registers, Period, Tariff, charge_on}
 use Rattle.rules.specs.Laid.{next_day, metered}
-use Rattle.rules.specs.Law as law
+use Rattle.rules.specs.Shown as show
 use Rattle.rules.specs.Machine.{State, period_of, bill_row}
 use Rattle.book.specs.Pages.{Pages, pages_of, written}
 use Rattle.figures.specs.View.{seen, period_seen}
@@ -40,19 +40,19 @@ pub past_by : {X : Type 0} (p q : Pages X) (x : X) → q ≡ written p x → dro
 past_by p q x e =
     ap (λ z. drop z.filled z.memory) e ∙ drop-set-lt (p.filled + 1) p.memory p.filled x (omega arith) ∙ sym (ap (λ z. drop z.filled p.memory) e)
 
-abbrev pub bill_line : (hold row : ℕ) → ℤ → law.Line
-bill_line hold row cents = record { hold = hold; letter = law.B; row = Some row; cents = cents }
+abbrev pub bill_line : (hold row : ℕ) → ℤ → show.Line
+bill_line hold row cents = record { hold = hold; letter = show.B; row = Some row; cents = cents }
 
-abbrev pub made_of : {T : Type 0} → Account T → (hold row : ℕ) → law.Row → State
+abbrev pub made_of : {T : Type 0} → Account T → (hold row : ℕ) → show.Row → State
 made_of a hold place r = made a (rows_of (pages_of a.sheet) ++ (r ∷ [])) (bill_line hold place (pos r.cents) ∷ []) (billed_by (totals a.sums) r.cents)
 
 -- a row entered is what a bill or an estimate does
-pub entered_is : {T : Type 0} (t : Tariff) (a : Account T) (hold hold' : ℕ) (r : law.Row) (p : Period) → hold ≡ hold' → r ≡ law.row_of t p → made_of a hold a.sheet.filled r ≡ bill_row t (state_of a) hold' p
-entered_is t a hold hold' r p h e = ap₂ (λ k x. made_of a k a.sheet.filled x) h e ∙ ap (λ n. made_of a hold' n (law.row_of t p)) (sym (rows_length a))
+pub entered_is : {T : Type 0} (t : Tariff) (a : Account T) (hold hold' : ℕ) (r : show.Row) (p : Period) → hold ≡ hold' → r ≡ show.row_of t p → made_of a hold a.sheet.filled r ≡ bill_row t (state_of a) hold' p
+entered_is t a hold hold' r p h e = ap₂ (λ k x. made_of a k a.sheet.filled x) h e ∙ ap (λ n. made_of a hold' n (show.row_of t p)) (sym (rows_length a))
 
-abbrev pub rowed : (first last : ℕ) → Registers → ℕ → law.Row
+abbrev pub rowed : (first last : ℕ) → Registers → ℕ → show.Row
 rowed first last r cents = record { period = metered first last r; cents = cents }
 
 -- a row that is read
-pub read_row : (t : Tariff) (first last : ℕ) (r : Registers) (cents first' last' : ℕ) (r' : Registers) → first ≡ first' → last ≡ last' → r ≡ r' → cents ≡ charge_on t last r → rowed first last r cents ≡ law.row_of t (metered first' last' r')
+pub read_row : (t : Tariff) (first last : ℕ) (r : Registers) (cents first' last' : ℕ) (r' : Registers) → first ≡ first' → last ≡ last' → r ≡ r' → cents ≡ charge_on t last r → rowed first last r cents ≡ show.row_of t (metered first' last' r')
 read_row t first last r cents first' last' r' a b c d = ap (rowed first last r) d ∙ ap₂ (λ x y. rowed x y r (charge_on t y r)) a b ∙ ap (λ z. rowed first' last' z (charge_on t last' z)) c

@@ -1,6 +1,6 @@
 -- What a call answers: each refusal by its number, and an accepted call's value. Assumes nothing.
 use Rattle.std.specs.Prelude.{◌≡◌, ℕ, Bool, true, false, ℤ, pos, Ok, Err, Result}
-use Rattle.rules.specs.Machine.{Answer}
+use Rattle.rules.specs.Shown.{Answer}
 use Rattle.figures.specs.View.{Charge}
 use Rattle.figures.specs.declared.money.Money.{Money}
 use Rattle.figures.specs.declared.money.Payment.{Payment}
@@ -25,6 +25,9 @@ number_of NoNumber = 12
 abbrev pub answered : {X : Type 0} → (X → ℤ) → Result X Refusal → Answer
 answered worth (Ok x) = record { number = 0; value = worth x }
 answered worth (Err e) = record { number = number_of e; value = pos 0 }
+
+abbrev pub opened_answer : {X : Type 0} → Result X Refusal → Answer
+opened_answer = answered (λ a. pos 0)
 
 abbrev pub taken_answer : Result ℕ Refusal → Answer
 taken_answer = answered pos

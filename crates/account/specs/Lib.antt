@@ -1,4 +1,5 @@
 pub mod State
 pub mod Answers
+pub mod Work
 pub mod Estimates
 pub mod Corrections

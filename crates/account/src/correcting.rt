@@ -77,7 +77,7 @@ impl<'a, T: Tariff> Account<'a, T> {
     /// Lays new registers on the rows of a finding, and spreads or settles what that comes to.
     pub fn correct<M: Method>(&mut self, hold: u64, f: Finding, m: &M) -> Result<Money, Refusal>
         ensures after { Stepped T.Tariff.meaning self.old self.new (correct hold (finding_of f) (M.Method.meaning m.now)) (corrected_answer result) }
-        ensures law { LawfulAfter T.Tariff.meaning self.old self.new (correct hold (finding_of f) (M.Method.meaning m.now)) }
+        ensures law { LawfulAfter T.Tariff.meaning self.old self.new (correct hold (finding_of f) (M.Method.meaning m.now)) (corrected_answer result) }
     {
         let hold = self.ask_correct(hold, f, m)?;
         let before = self.journal.filled;

@@ -6,7 +6,8 @@ ghost use Rattle.rules.specs.Questions.{question, first_no, shares_fit};
 ghost use Rattle.rules.specs.Machine.{view, periods_of};
 ghost use Rattle.sheet.specs.Rows.{unread_by};
 ghost use Rattle.account.specs.Estimates.{share_asked};
-ghost use Rattle.account.specs.State.{state_of, opening_of, Stepped, LawfulAfter, Roomy};
+ghost use Rattle.account.specs.State.{state_of, opening_of, Stepped, LawfulAfter};
+ghost use Rattle.account.specs.Work.{Roomy};
 ghost use Rattle.account.specs.Answers.{Asked, billed_answer};
 
 use crate::account::Account;
@@ -75,7 +76,7 @@ impl<'a, T: Tariff> Account<'a, T> {
     /// Bills a period that ends on `last` and was not read: by the method's share, or without energy where it is late in its run.
     pub fn estimate<M: Method>(&mut self, hold: u64, last: u64, m: &M) -> Result<Charge, Refusal>
         ensures after { Stepped T.Tariff.meaning self.old self.new (estimate hold last (M.Method.meaning m.now)) (billed_answer result) }
-        ensures law { LawfulAfter T.Tariff.meaning self.old self.new (estimate hold last (M.Method.meaning m.now)) }
+        ensures law { LawfulAfter T.Tariff.meaning self.old self.new (estimate hold last (M.Method.meaning m.now)) (billed_answer result) }
     {
         let Estimating { hold, term, late } = self.ask_estimate(hold, last, m)?;
         let row = estimating::unread(&mut self.tariff, m, late, term);

@@ -39,7 +39,7 @@ impl<'a, T: Tariff> Account<'a, T> {
     /// Grants the next hold, for `span` seconds from `moment` on.
     pub fn take(&mut self, moment: u64, span: u64) -> Result<u32, Refusal>
         ensures after { Stepped T.Tariff.meaning self.old self.new (taking moment span) (taken_answer result) }
-        ensures law { LawfulAfter T.Tariff.meaning self.old self.new (taking moment span) }
+        ensures law { LawfulAfter T.Tariff.meaning self.old self.new (taking moment span) (taken_answer result) }
     {
         let number = self.ask_take(moment, span)?;
         self.granted = number;
@@ -53,7 +53,7 @@ impl<'a, T: Tariff> Account<'a, T> {
     /// Hands a hold back. A hold that was taken over no longer stands, so it cannot be handed back.
     pub fn hand_back(&mut self, hold: u64) -> Result<(), Refusal>
         ensures after { Stepped T.Tariff.meaning self.old self.new (hand_back hold) (handed_answer result) }
-        ensures law { LawfulAfter T.Tariff.meaning self.old self.new (hand_back hold) }
+        ensures law { LawfulAfter T.Tariff.meaning self.old self.new (hand_back hold) (handed_answer result) }
     {
         let _ = self.held(hold)?;
         self.holding = None;

@@ -1,17 +1,19 @@
 // The opening, and what an account shows.
-ghost use Rattle.std.specs.Prelude.{◌≡◌, map};
+ghost use Rattle.std.specs.Prelude.{◌≡◌, map, pos};
 ghost use Rattle.rules.specs.Questions.{first_no, opening_asked};
 ghost use Rattle.figures.specs.View.{seen, line_seen};
-ghost use Rattle.account.specs.State.{state_of, Opened};
-ghost use Rattle.account.specs.Answers.{Asked};
+ghost use Rattle.sums.specs.Bounds.{seen as instalment_seen};
+ghost use Rattle.account.specs.State.{hold_of, state_of, Opened};
+ghost use Rattle.account.specs.Answers.{opened_answer, Asked};
 
-use crate::account::Account;
+use crate::account::{Account, Hold};
 use crate::answer::Refusal;
 use book::kept::Book;
 use figures::dates::Day;
 use figures::line::Line;
 use figures::money::Money;
 use figures::row::Row;
+use sums::coming::Coming;
 use sums::sums::Sums;
 use tariff::tariff::Tariff;
 
@@ -31,7 +33,8 @@ impl<'a, T: Tariff> Account<'a, T> {
     ) -> Result<Account<'a, T>, Refusal>
     where
         T: Drop,
-        ensures { Asked (first_no (opening_asked day)) (λ a. Opened T.Tariff.meaning a tariff day sheet.old journal.old) result }
+        ensures answer { opened_answer result ≡ record { number = first_no (opening_asked day); value = pos 0 } }
+        ensures made { Asked (first_no (opening_asked day)) (λ a. Opened T.Tariff.meaning a tariff day sheet.old journal.old) result }
     {
         let opening = Day::new(day)?;
         let sums = Sums::new();
@@ -62,6 +65,20 @@ impl<'a, T> Account<'a, T> {
         ensures { result.0 ≡ (state_of self.now).due }
     {
         self.sums.due
+    }
+
+    /// What each of the next twelve bills will bring, and of how many corrections.
+    pub fn coming(&self) -> Coming
+        ensures { map instalment_seen result.places ≡ (state_of self.now).coming }
+    {
+        self.sums.coming
+    }
+
+    /// The hold that was granted last, where it is not handed back.
+    pub fn hold(&self) -> Option<Hold>
+        ensures { hold_of result ≡ (state_of self.now).holding }
+    {
+        self.holding
     }
 
     /// The billed rows.

@@ -34,7 +34,7 @@ impl<'a, T: Tariff> Account<'a, T> {
     /// A payment lowers the amount due and the balance; its line names no row.
     pub fn pay(&mut self, hold: u64, cents: Cents) -> Result<Payment, Refusal>
         ensures after { Stepped T.Tariff.meaning self.old self.new (pay hold cents.0) (paid_answer result) }
-        ensures law { LawfulAfter T.Tariff.meaning self.old self.new (pay hold cents.0) }
+        ensures law { LawfulAfter T.Tariff.meaning self.old self.new (pay hold cents.0) (paid_answer result) }
     {
         let Paying { hold, payment } = self.ask_pay(hold, cents)?;
         let _ = self.journal.append(Line {

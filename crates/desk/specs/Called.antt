@@ -1,8 +1,8 @@
 -- An account before and after a line of the text. Assumes nothing.
-use Rattle.std.specs.Prelude.{◌≡◌, drop, ℤ, pos, Ok, Err, Result}
+use Rattle.std.specs.Prelude.{◌≡◌, ℤ, pos, Ok, Err, Result}
 use Rattle.rules.specs.Subject.{Tariff, Call}
 use Rattle.account.specs.declared.account.Account.{Account}
-use Rattle.account.specs.State.{state_of, opening_of}
+use Rattle.account.specs.State.{state_of, opening_of, Same}
 use Rattle.desk.specs.declared.fault.Fault.{Fault}
 use Rattle.desk.specs.declared.fault.Layer.TheVariants.{Account as By-account}
 use Rattle.desk.specs.Faults.{layer_of, fault_number, fault_value}
@@ -13,11 +13,8 @@ abbrev pub outcome_of : Result ℤ Fault → Outcome
 outcome_of (Ok value) = record { layer = By-account; number = 0; value = value }
 outcome_of (Err f) = record { layer = layer_of f; number = fault_number f; value = pos (fault_value f) }
 
--- b is a after this call, if one is made, and the line was answered r; memory past the filled part is as it was
+-- b is a after this call, if one is made, and the line was answered r
 pub record Called {T : Type 0} (mean : T → Tariff) (a b : Account T) (c : Result Call Outcome) (r : Result ℤ Fault) : Type 0 where
   pub answer : outcome_of r ≡ (answered (mean a.tariff) (opening_of a) (state_of a) c).0
   pub state : state_of b ≡ (answered (mean a.tariff) (opening_of a) (state_of a) c).1
-  pub opening : opening_of b ≡ opening_of a
-  pub tariff : mean b.tariff ≡ mean a.tariff
-  pub sheet_past : drop b.sheet.filled b.sheet.memory.now ≡ drop b.sheet.filled a.sheet.memory.now
-  pub journal_past : drop b.journal.filled b.journal.memory.now ≡ drop b.journal.filled a.journal.memory.now
+  pub same : Same mean a b

@@ -2,6 +2,7 @@
 use Rattle.std.specs.Prelude.{ℕ, List, ◌∷◌, ℤ, pos, Ok, Err, Result}
 use Rattle.rules.specs.Subject as rules
 use Rattle.rules.specs.Subject.{Period, Tariff, Method, Call, Opening}
+use Rattle.rules.specs.Law.{answer_to}
 use Rattle.rules.specs.Machine.{State, step}
 use Rattle.figures.specs.View.{reading_of}
 use Rattle.method.specs.Uses.{finding_of}
@@ -51,6 +52,11 @@ line_call ps (Err f) = Err (record { layer = Reader; number = reader.fault_numbe
 abbrev pub answered : Tariff → Opening → State → Result Call Outcome → Outcome × State
 answered t o s (Ok c) = let done = step t o s c in (record { layer = Account; number = done.0.number; value = done.0.value }, done.1)
 answered t o s (Err out) = (out, s)
+
+-- what a line is answered after a history: its call as the history has it
+abbrev pub outcome_after : Tariff → Opening → List Call → Result Call Outcome → Outcome
+outcome_after t o h (Ok c) = let a = answer_to t o h c in record { layer = Account; number = a.number; value = a.value }
+outcome_after t o h (Err out) = out
 
 -- the calls made, newest first, and then this one, if it is made
 abbrev pub with_call : List Call → Result Call Outcome → List Call

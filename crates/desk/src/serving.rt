@@ -94,7 +94,7 @@ fn call<T: Tariff>(account: &mut Account<T>, event: Event) -> Result<i64, Fault>
 /// Reads a line and serves its event; a refusal names the layer that gave it.
 pub fn serve<T: Tariff>(account: &mut Account<T>, line: &[u8]) -> Result<i64, Fault>
     ensures after { Called T.Tariff.meaning account.old account.new (line_call (periods_of (state_of account.old)) (event_of line.now)) result }
-    ensures law { LawfulLine T.Tariff.meaning account.old account.new line.now }
+    ensures law { LawfulLine T.Tariff.meaning account.old account.new line.now result }
 {
     let event = read_event(line)?;
     call(account, event)

@@ -1,6 +1,6 @@
 -- The figures of the code as the rules have them, their limits forgotten. Assumes nothing.
 use Rattle.rules.specs.Subject as rules
-use Rattle.rules.specs.Law as law
+use Rattle.rules.specs.Shown as show
 use Rattle.figures.specs.declared.reported.Cents.{Cents}
 use Rattle.figures.specs.declared.reported.Reading.{Reading}
 use Rattle.figures.specs.declared.units.Register.{Register}
@@ -38,15 +38,15 @@ period_seen r = record {
   standing = regs r.standing;
 }
 
-abbrev pub seen : Row → law.Row
+abbrev pub seen : Row → show.Row
 seen r = record { period = period_seen r; cents = r.charge.figure.0 }
 
-abbrev pub letter_of : Letter → law.Letter
-letter_of Bill = law.B
-letter_of Correction = law.C
-letter_of Payment = law.P
+abbrev pub letter_of : Letter → show.Letter
+letter_of Bill = show.B
+letter_of Correction = show.C
+letter_of Payment = show.P
 
-abbrev pub line_seen : Line → law.Line
+abbrev pub line_seen : Line → show.Line
 line_seen l = record { hold = l.hold; letter = letter_of l.letter; row = l.row; cents = l.cents.0 }
 
 -- what one row is charged

@@ -5,7 +5,8 @@ use Rattle.rules.specs.Subject.{Registers, estimated, no_energy, Period, is_read
 use Rattle.rules.specs.Laid.{next_day, run, laid, with_standing, blank, metered, unread, rewrites, corrected}
 use Rattle.rules.specs.Questions.{is_day, is_reading, is_term, every, asked}
 use Rattle.rules.specs.Given.{give, given, accepted}
-use Rattle.rules.specs.Law.{billed, Every, Each}
+use Rattle.rules.specs.Owed.{billed}
+use Rattle.rules.specs.Law.{Every, Each}
 use Rattle.rules.proofs.Runs.{Passed, accepted_passed}
 use Rattle.rules.proofs.Holds.{answers}
 use Rattle.method.specs.Three.{three_from, is_read_row, all_read}

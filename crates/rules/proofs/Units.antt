@@ -6,7 +6,8 @@ use Rattle.rules.specs.Sharing.{sum_of, whole, share}
 use Rattle.rules.specs.Laid.{next_day, run_on, run_past, run, laid, with_standing, blank, unread, in_span, rewrites_sort, rewrites, rewritten, corrected}
 use Rattle.rules.specs.Questions.{of_sort, every, asked}
 use Rattle.rules.specs.Given.{give, given}
-use Rattle.rules.specs.Law.{billed, Every, Each, AddsUp, WholeTotals, Close, CloseShares, NoneFromSeventh}
+use Rattle.rules.specs.Owed.{billed}
+use Rattle.rules.specs.Law.{Every, Each, AddsUp, WholeTotals, Close, CloseShares, NoneFromSeventh}
 use Rattle.rules.proofs.Shares.{whole_none, share_next, share_near}
 use Rattle.rules.proofs.Runs.{Passed}
 use Rattle.rules.proofs.Holds.{answers}

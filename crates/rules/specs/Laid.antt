@@ -8,14 +8,16 @@ abbrev pub next_day : ℕ → List Period → ℕ
 next_day opening [] = opening
 next_day opening (p ∷ ps) = next_day (p.last + 1) ps
 
--- how many unmetered periods in a row stand at the end of ps, where n stand before ps: a run ends only at a period that is read
+-- how many unmetered periods stand in a row with p, where n do before it: a run ends only at a period that is read
 abbrev pub run_on : ℕ → Period → ℕ
 run_on n p = cond (unmetered p) (n + 1) 0
 
+-- and with the periods ps after those n
 abbrev pub run_past : ℕ → List Period → ℕ
 run_past n [] = n
 run_past n (p ∷ ps) = run_past (run_on n p) ps
 
+-- and at the end of ps
 abbrev pub run : List Period → ℕ
 run ps = run_past 0 ps
 

@@ -1,49 +1,114 @@
 -- One call more. Assumes nothing.
-use Rattle.std.proofs.Common.{◌≡◌, ℕ, List, [], ◌∷◌, ◌++◌, length, sym, refl, ap, ◌∙◌, subst}
-use Rattle.rules.specs.Subject.{Tariff, Call, Opening}
+use Rattle.std.proofs.Common.{◌≡◌, ℕ, suc, pos, ◌+◌, ◌-◌, ◌≤◌, Bool, true, false, cond, eqb, List, [], ◌∷◌, ◌++◌, length, drop, sym, refl, ap, ◌∙◌, subst, arith}
+use Rattle.std.proofs.lemmas.Bool.{cond_both}
+use Rattle.std.proofs.lemmas.List.{length-append, drop-drop}
+use Rattle.rules.specs.Subject.{Tariff, Finding, Method, day_weight, peak_weight, Call, take, hand_back, bill, estimate, correct, pay, Opening}
+use Rattle.rules.specs.Laid.{rewrites}
+use Rattle.rules.specs.Questions.{question}
+use Rattle.rules.specs.Shown.{Row, Answer}
 use Rattle.rules.specs.Law.{Law}
-use Rattle.rules.specs.Machine.{State, step, after, shown}
+use Rattle.rules.specs.Machine.{State, view, relay, effect, worth, step, after, shown}
+use Rattle.rules.proofs.Runs.{of_cond}
 use Rattle.rules.proofs.Stands.{account_law}
+use Rattle.figures.specs.declared.row.Row as figures-row
+use Rattle.figures.specs.declared.line.Line as figures-line
 use Rattle.account.specs.declared.account.Account.{Account}
-use Rattle.account.specs.State.{state_of, opening_of}
-use Rattle.account.specs.State.{Opened}
-use Rattle.figures.specs.declared.row.Row.{Row}
-use Rattle.figures.specs.declared.line.Line.{Line}
+use Rattle.account.specs.State.{state_of, opening_of, Lawful, opened_over, Opened}
+use Rattle.account.proofs.Calls.{rows_length, lines_length}
 use Rattle.run.specs.Runs.{Moved, onto, Follows, KeepsLaw}
+
+length-relay : (t : Tariff) (f : Finding) (m : Method) (row V W : ℕ) (rs : List Row) → length (relay t f m row V W rs) ≡ length rs
+unfolding relay
+length-relay t f m row V W [] = refl
+length-relay t f m row V W (r ∷ rs) =
+    of_cond length (rewrites f row r.period)
+    (ap suc (length-relay t f m (suc row) (V + day_weight m r.period) (W + peak_weight m r.period) rs))
+    (ap suc (length-relay t f m (suc row) V W rs))
+
+-- rows and lines of one state are no more than those of another
+record NoMore (s s' : State) : Type 0 where
+  rows : length s.rows ≤ length s'.rows
+  lines : length s.lines ≤ length s'.lines
+
+more : {X : Type 0} (xs ys : List X) → length xs ≤ length (xs ++ ys)
+more xs ys = omega (arith, length-append xs ys)
+
+effect_grows : (t : Tariff) (o : Opening) (s : State) (c : Call) → NoMore s (effect t o s c)
+unfolding effect
+effect_grows t o s (take now length) = record { rows = omega arith; lines = omega arith }
+effect_grows t o s (hand_back hold) = record { rows = omega arith; lines = omega arith }
+effect_grows t o s (bill hold last r) = record { rows = more s.rows _; lines = more s.lines _ }
+effect_grows t o s (estimate hold last m) = record { rows = more s.rows _; lines = more s.lines _ }
+effect_grows t o s (correct hold f m) = record { rows = omega (arith, length-relay t f m 0 0 0 s.rows); lines = more s.lines _ }
+effect_grows t o s (pay hold cents) = record { rows = omega arith; lines = more s.lines _ }
+
+-- no step takes a row or a line away
+step_grows : (t : Tariff) (o : Opening) (s : State) (c : Call) → NoMore s (step t o s c).1
+unfolding step
+step_grows t o s c =
+    let q = question o (view s) c in
+    let grown : State → Type 0 = NoMore s in
+    cond_both (eqb q 0) (record { number = 0; value = worth t o s c }, effect t o s c) (record { number = q; value = pos 0 }, s)
+    (λ (x : Answer × State). grown x.1) (λ e. effect_grows t o s c) (λ e. record { rows = omega arith; lines = omega arith })
+
+-- what is unchanged from m on and then from n on is unchanged from n on
+past_both : {X : Type 0} (xs ys zs : List X) (m n : ℕ) → m ≤ n → drop m ys ≡ drop m xs → drop n zs ≡ drop n ys → drop n zs ≡ drop n xs
+past_both xs ys zs m n h e k =
+    let there : m + (n - m) ≡ n = omega (arith, h) in
+    k
+    ∙ sym (drop-drop (n - m) m ys ∙ ap (λ i. drop i ys) there)
+    ∙ ap (drop (n - m)) e
+    ∙ (drop-drop (n - m) m xs ∙ ap (λ i. drop i xs) there)
 
 onto_push : (h cs : List Call) (c : Call) → onto h (cs ++ (c ∷ [])) ≡ c ∷ onto h cs
 onto_push h [] c = refl
 onto_push h (d ∷ cs) c = onto_push (d ∷ h) cs c
 
 module _ {T : Type 0} (mean : T → Tariff) where
-  by_state : (a b : Account T) (cs : List Call) → ((h : List Call) → state_of a ≡ after (mean a.tariff) (opening_of a) h → state_of b ≡ after (mean a.tariff) (opening_of a) (onto h cs)) → opening_of b ≡ opening_of a → mean b.tariff ≡ mean a.tariff → Follows mean a b cs
-  by_state a b cs s o t = record {
-    state = s;
-    law = λ h e. subst (λ (x : State). Law (mean a.tariff) (opening_of a) (onto h cs) (shown x)) (sym (s h e)) (account_law (mean a.tariff) (opening_of a) (onto h cs));
-    opening = o;
-    tariff = t;
-  }
+  lawful_at : (t : Tariff) (o : Opening) (h : List Call) (b : Account T) → state_of b ≡ after t o h → Lawful t o h b
+  lawful_at t o h b e = record { state = e; law = subst (λ (x : State). Law t o h (shown x)) (sym e) (account_law t o h) }
+
+  rows_grow : (a b : Account T) (c : Call) → Moved mean a b c → a.sheet.filled ≤ b.sheet.filled
+  rows_grow a b c m = omega (arith, rows_length a, rows_length b, ap (λ (s : State). length s.rows) m.state, (step_grows (mean a.tariff) (opening_of a) (state_of a) c).rows)
+
+  lines_grow : (a b : Account T) (c : Call) → Moved mean a b c → a.journal.filled ≤ b.journal.filled
+  lines_grow a b c m = omega (arith, lines_length a, lines_length b, ap (λ (s : State). length s.lines) m.state, (step_grows (mean a.tariff) (opening_of a) (state_of a) c).lines)
 
   pub follows_none : (a : Account T) → Follows mean a a []
-  follows_none a = by_state a a [] (λ h e. e) refl refl
+  follows_none a = record {
+    lawful = λ h e. lawful_at (mean a.tariff) (opening_of a) h a e;
+    same = record { opening = refl; tariff = refl; sheet_past = refl; journal_past = refl };
+  }
 
   pub follows_more : (a b d : Account T) (cs : List Call) (c : Call) → Follows mean a b cs → Moved mean b d c → Follows mean a d (cs ++ (c ∷ []))
   unfolding after
   follows_more a b d cs c f m =
-      by_state a d (cs ++ (c ∷ []))
-      (λ h e.
-      m.state
-      ∙ ap (λ (t : Tariff). (step t (opening_of b) (state_of b) c).1) f.tariff
-      ∙ ap (λ (o : Opening). (step (mean a.tariff) o (state_of b) c).1) f.opening
-      ∙ ap (λ (s : State). (step (mean a.tariff) (opening_of a) s c).1) (f.state h e)
-      ∙ ap (after (mean a.tariff) (opening_of a)) (sym (onto_push h cs c)))
-      (m.opening ∙ f.opening) (m.tariff ∙ f.tariff)
+      let t = mean a.tariff in
+      let o = opening_of a in
+      record {
+        lawful = λ h e. lawful_at t o (onto h (cs ++ (c ∷ []))) d
+        (m.state
+        ∙ ap (λ (x : Tariff). (step x (opening_of b) (state_of b) c).1) f.same.tariff
+        ∙ ap (λ (x : Opening). (step t x (state_of b) c).1) f.same.opening
+        ∙ ap (λ (s : State). (step t o s c).1) (f.lawful h e).state
+        ∙ ap (after t o) (sym (onto_push h cs c)));
+        same = record {
+          opening = m.same.opening ∙ f.same.opening;
+          tariff = m.same.tariff ∙ f.same.tariff;
+          sheet_past = past_both a.sheet.memory.now b.sheet.memory.now d.sheet.memory.now b.sheet.filled d.sheet.filled (rows_grow b d c m) f.same.sheet_past m.same.sheet_past;
+          journal_past = past_both a.journal.memory.now b.journal.memory.now d.journal.memory.now b.journal.filled d.journal.filled (lines_grow b d c m) f.same.journal_past m.same.journal_past;
+        };
+      }
 
   -- an account just opened follows the empty run
-  pub opened_follows : (a b : Account T) (t : T) (day : ℕ) (sheet : List Row) (journal : List Line) (cs : List Call) → Opened mean a t day sheet journal → Follows mean a b cs → KeepsLaw (mean t) day (length sheet) (length journal) cs b
+  pub opened_follows : (a b : Account T) (t : T) (day : ℕ) (sheet : List figures-row.Row) (journal : List figures-line.Line) (cs : List Call) → Opened mean a t day sheet journal → Follows mean a b cs → KeepsLaw mean (mean t) day sheet journal cs b
   opened_follows a b t day sheet journal cs o f =
-      let P : Tariff → Opening → Type 0 = λ x y. (state_of b ≡ after x y (onto [] cs)) × Law x y (onto [] cs) (shown (state_of b)) in
-      let start : state_of a ≡ after (mean a.tariff) (opening_of a) [] = o.state ∙ ap (λ (x : T). after (mean x) (opening_of a) []) (sym o.tariff) in
-      let there : P (mean a.tariff) (opening_of a) = (f.state [] start, f.law [] start) in
-      let end = subst (P (mean t)) o.opening (subst (λ (x : T). P (mean x) (opening_of a)) o.tariff there) in
-      record { state = end.0; law = end.1 }
+      let P : Tariff → Opening → Type 0 = λ x y. Lawful x y (onto [] cs) b in
+      let start : state_of a ≡ after (mean a.tariff) (opening_of a) [] = o.lawful.state ∙ ap (λ (x : T). after (mean x) (opened_over day sheet journal) []) (sym o.tariff) ∙ ap (λ (x : Opening). after (mean a.tariff) x []) (sym o.opening) in
+      record {
+        lawful = subst (P (mean t)) o.opening (subst (λ (x : T). P (mean x) (opening_of a)) o.tariff (f.lawful [] start));
+        opening = f.same.opening ∙ o.opening;
+        tariff = f.same.tariff ∙ ap mean o.tariff;
+        sheet_past = f.same.sheet_past ∙ ap (drop b.sheet.filled) o.rows;
+        journal_past = f.same.journal_past ∙ ap (drop b.journal.filled) o.lines;
+      }

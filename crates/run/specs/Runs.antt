@@ -1,13 +1,14 @@
 -- Whole runs of an account. Assumes nothing.
-use Rattle.std.specs.Prelude.{◌≡◌, ℕ, List, [], ◌∷◌}
+use Rattle.std.specs.Prelude.{◌≡◌, ℕ, List, [], ◌∷◌, drop}
 use Rattle.rules.specs.Subject as rules
-use Rattle.rules.specs.Subject.{Tariff, Method, Call, Opening}
-use Rattle.rules.specs.Law.{Law}
-use Rattle.rules.specs.Machine.{step, after, shown}
+use Rattle.rules.specs.Subject.{Tariff, Method, Call}
+use Rattle.rules.specs.Machine.{step, after}
 use Rattle.figures.specs.View.{reading_of}
+use Rattle.figures.specs.declared.row.Row.{Row}
+use Rattle.figures.specs.declared.line.Line.{Line}
 use Rattle.method.specs.Uses.{finding_of}
 use Rattle.account.specs.declared.account.Account.{Account}
-use Rattle.account.specs.State.{state_of, opening_of}
+use Rattle.account.specs.State.{state_of, opening_of, Same, Lawful, opened_over}
 use Rattle.run.specs.declared.ask.Ask.{Ask}
 use Rattle.run.specs.declared.ask.Ask.TheVariants.{Take, HandBack, Bill, Estimate, Correct, Pay}
 
@@ -23,22 +24,23 @@ call_of mean (Pay hold cents) = rules.pay hold cents.0
 -- one call made: b is a after the step
 pub record Moved {T : Type 0} (mean : T → Tariff) (a b : Account T) (c : Call) : Type 0 where
   pub state : state_of b ≡ (step (mean a.tariff) (opening_of a) (state_of a) c).1
-  pub opening : opening_of b ≡ opening_of a
-  pub tariff : mean b.tariff ≡ mean a.tariff
+  pub same : Same mean a b
 
 -- a history, newest first, with more calls, oldest first
 abbrev pub onto : List Call → List Call → List Call
 onto h [] = h
 onto h (c ∷ cs) = onto (c ∷ h) cs
 
--- calls made: if a follows a run, b follows the run with these calls added, and keeps its law
+-- calls made: where a follows a run, b follows and keeps the law of the run with these calls after it
 pub record Follows {T : Type 0} (mean : T → Tariff) (a b : Account T) (cs : List Call) : Type 0 where
-  pub state : (h : List Call) → state_of a ≡ after (mean a.tariff) (opening_of a) h → state_of b ≡ after (mean a.tariff) (opening_of a) (onto h cs)
-  pub law : (h : List Call) → state_of a ≡ after (mean a.tariff) (opening_of a) h → Law (mean a.tariff) (opening_of a) (onto h cs) (shown (state_of b))
-  pub opening : opening_of b ≡ opening_of a
-  pub tariff : mean b.tariff ≡ mean a.tariff
+  pub lawful : (h : List Call) → state_of a ≡ after (mean a.tariff) (opening_of a) h → Lawful (mean a.tariff) (opening_of a) (onto h cs) b
+  pub same : Same mean a b
 
--- from the opening to the end: opened on a day over memory of these lengths, and after these calls, the account keeps the law
-pub record KeepsLaw {T : Type 0} (t : Tariff) (day sheet journal : ℕ) (cs : List Call) (a : Account T) : Type 0 where
-  pub state : state_of a ≡ after t (record { day = day; sheet = sheet; journal = journal }) (onto [] cs)
-  pub law : Law t (record { day = day; sheet = sheet; journal = journal }) (onto [] cs) (shown (state_of a))
+-- from the opening to the end: opened on a day over this memory, the account follows these calls and keeps their law; its tariff
+-- means t, and memory past the filled parts is as it was lent
+pub record KeepsLaw {T : Type 0} (mean : T → Tariff) (t : Tariff) (day : ℕ) (sheet : List Row) (journal : List Line) (cs : List Call) (a : Account T) : Type 0 where
+  pub lawful : Lawful t (opened_over day sheet journal) (onto [] cs) a
+  pub opening : opening_of a ≡ opened_over day sheet journal
+  pub tariff : mean a.tariff ≡ t
+  pub sheet_past : drop a.sheet.filled a.sheet.memory.now ≡ drop a.sheet.filled sheet
+  pub journal_past : drop a.journal.filled a.journal.memory.now ≡ drop a.journal.filled journal

@@ -1,5 +1,5 @@
 // Calls, one after another.
-ghost use Rattle.std.specs.Prelude.{◌≡◌, map, length};
+ghost use Rattle.std.specs.Prelude.{map};
 ghost use Rattle.rules.specs.Questions.{first_no, opening_asked};
 ghost use Rattle.account.specs.Answers.{Asked};
 ghost use Rattle.run.specs.Runs.{call_of, Moved, Follows, KeepsLaw};
@@ -63,7 +63,7 @@ pub fn open_and_serve<'a, T: Tariff + Drop, M: Method>(
     journal: &'a mut [Line],
     asks: &[Ask<M>],
 ) -> Result<Account<'a, T>, Refusal>
-    ensures law { Asked (first_no (opening_asked day)) (λ a. KeepsLaw (T.Tariff.meaning tariff) day (length sheet.old) (length journal.old) (map (call_of M.Method.meaning) asks.now) a) result }
+    ensures law { Asked (first_no (opening_asked day)) (λ a. KeepsLaw T.Tariff.meaning (T.Tariff.meaning tariff) day sheet.old journal.old (map (call_of M.Method.meaning) asks.now) a) result }
 {
     let mut account = Account::open(tariff, day, sheet, journal)?;
     serve_all(&mut account, asks);

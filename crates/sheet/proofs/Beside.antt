@@ -3,7 +3,7 @@ use Rattle.std.proofs.Common.{◌≡◌, ℕ, suc, ◌+◌, ◌<◌, ◌≤◌, 
 use Rattle.std.proofs.lemmas.Bool.{cond-false, leb-true, leb-false}
 use Rattle.rules.specs.Subject.{Period, Tariff, Finding, Method, day_weight, peak_weight}
 use Rattle.rules.specs.Laid.{laid, with_standing, in_span, rewrites_sort, rewrites, rewritten, corrected}
-use Rattle.rules.specs.Law as law
+use Rattle.rules.specs.Shown as show
 use Rattle.rules.specs.Machine.{rewritten_row, relay, posts}
 use Rattle.rules.proofs.Runs.{of_cond}
 
@@ -124,7 +124,7 @@ module _ (f : Finding) where
         ∙ rewritten_between xs (corrected f m (length xs) 0 0 ys) zs a (λ k. omega (arith, b k))
 
     module _ (t : Tariff) where
-      relay_before : (i V W : ℕ) (xs ys : List law.Row) → i + length xs ≤ f.first → relay t f m i V W (xs ++ ys) ≡ xs ++ relay t f m (i + length xs) V W ys
+      relay_before : (i V W : ℕ) (xs ys : List show.Row) → i + length xs ≤ f.first → relay t f m i V W (xs ++ ys) ≡ xs ++ relay t f m (i + length xs) V W ys
       unfolding relay
       relay_before i V W [] ys h = let e : i ≡ i + 0 = omega arith in ap (λ j. relay t f m j V W ys) e
       relay_before i V W (x ∷ xs) ys h =
@@ -132,14 +132,14 @@ module _ (f : Finding) where
           ∙ ap (λ ps. x ∷ ps) (relay_before (suc i) V W xs ys (omega arith))
           ∙ ap (λ j. x ∷ (xs ++ relay t f m j V W ys)) (shifted i (length xs))
 
-      relay_past : (i V W : ℕ) (zs : List law.Row) → (1 ≤ length zs → f.last < i) → relay t f m i V W zs ≡ zs
+      relay_past : (i V W : ℕ) (zs : List show.Row) → (1 ≤ length zs → f.last < i) → relay t f m i V W zs ≡ zs
       unfolding relay
       relay_past i V W [] h = refl
       relay_past i V W (z ∷ zs) h =
           cond-false (rewrites f i z.period) _ _ (out i z.period (past_span i (h (omega arith))))
           ∙ ap (λ ps. z ∷ ps) (relay_past (suc i) V W zs (λ k. omega (arith, h (omega arith))))
 
-      relay_up : (i V W : ℕ) (ys zs : List law.Row) → (1 ≤ length zs → f.last < i + length ys) → relay t f m i V W (ys ++ zs) ≡ relay t f m i V W ys ++ zs
+      relay_up : (i V W : ℕ) (ys zs : List show.Row) → (1 ≤ length zs → f.last < i + length ys) → relay t f m i V W (ys ++ zs) ≡ relay t f m i V W ys ++ zs
       unfolding relay
       relay_up i V W [] zs h = relay_past i V W zs (λ k. omega (arith, h k))
       relay_up i V W (y ∷ ys) zs h =
@@ -150,7 +150,7 @@ module _ (f : Finding) where
           let over : relay t f m (suc i) V W (ys ++ zs) ≡ relay t f m (suc i) V W ys ++ zs = relay_up (suc i) V W ys zs (λ k. omega (arith, h k)) in
           ap₂ (λ p q. cond (rewrites f i y.period) (a ∷ p) (y ∷ q)) inside over ∙ sym (of_cond (λ ps. ps ++ zs) (rewrites f i y.period) refl refl)
 
-      pub relay_between : (xs ys zs : List law.Row) → length xs ≤ f.first → (1 ≤ length zs → f.last < length xs + length ys) → relay t f m 0 0 0 (xs ++ (ys ++ zs)) ≡ xs ++ (relay t f m (length xs) 0 0 ys ++ zs)
+      pub relay_between : (xs ys zs : List show.Row) → length xs ≤ f.first → (1 ≤ length zs → f.last < length xs + length ys) → relay t f m 0 0 0 (xs ++ (ys ++ zs)) ≡ xs ++ (relay t f m (length xs) 0 0 ys ++ zs)
       relay_between xs ys zs a b =
           let e : 0 + length xs ≡ length xs = omega arith in
           relay_before 0 0 0 xs (ys ++ zs) (omega arith)
@@ -158,7 +158,7 @@ module _ (f : Finding) where
           ∙ ap (λ ps. xs ++ ps) (relay_up (length xs) 0 0 ys zs b)
 
       module _ (hold : ℕ) where
-        posts_before : (i V W : ℕ) (xs ys : List law.Row) → i + length xs ≤ f.first → posts t f m hold i V W (xs ++ ys) ≡ posts t f m hold (i + length xs) V W ys
+        posts_before : (i V W : ℕ) (xs ys : List show.Row) → i + length xs ≤ f.first → posts t f m hold i V W (xs ++ ys) ≡ posts t f m hold (i + length xs) V W ys
         unfolding posts
         posts_before i V W [] ys h = let e : i ≡ i + 0 = omega arith in ap (λ j. posts t f m hold j V W ys) e
         posts_before i V W (x ∷ xs) ys h =
@@ -166,23 +166,23 @@ module _ (f : Finding) where
             ∙ posts_before (suc i) V W xs ys (omega arith)
             ∙ ap (λ j. posts t f m hold j V W ys) (shifted i (length xs))
 
-        posts_past : (i V W : ℕ) (zs : List law.Row) → (1 ≤ length zs → f.last < i) → posts t f m hold i V W zs ≡ []
+        posts_past : (i V W : ℕ) (zs : List show.Row) → (1 ≤ length zs → f.last < i) → posts t f m hold i V W zs ≡ []
         unfolding posts
         posts_past i V W [] h = refl
         posts_past i V W (z ∷ zs) h =
             cond-false (rewrites f i z.period) _ _ (out i z.period (past_span i (h (omega arith))))
             ∙ posts_past (suc i) V W zs (λ k. omega (arith, h (omega arith)))
 
-        posts_up : (i V W : ℕ) (ys zs : List law.Row) → (1 ≤ length zs → f.last < i + length ys) → posts t f m hold i V W (ys ++ zs) ≡ posts t f m hold i V W ys
+        posts_up : (i V W : ℕ) (ys zs : List show.Row) → (1 ≤ length zs → f.last < i + length ys) → posts t f m hold i V W (ys ++ zs) ≡ posts t f m hold i V W ys
         unfolding posts
         posts_up i V W [] zs h = posts_past i V W zs (λ k. omega (arith, h k))
         posts_up i V W (y ∷ ys) zs h =
             let V' = V + day_weight m y.period in
             let W' = W + peak_weight m y.period in
-            let l : law.Line = record { hold = hold; letter = law.C; row = Some i; cents = pos (rewritten_row t m V W y).cents -ℤ pos y.cents } in
+            let l : show.Line = record { hold = hold; letter = show.C; row = Some i; cents = pos (rewritten_row t m V W y).cents -ℤ pos y.cents } in
             ap₂ (λ p q. cond (rewrites f i y.period) (l ∷ p) q) (posts_up (suc i) V' W' ys zs (λ k. omega (arith, h k))) (posts_up (suc i) V W ys zs (λ k. omega (arith, h k)))
 
-        pub posts_between : (xs ys zs : List law.Row) → length xs ≤ f.first → (1 ≤ length zs → f.last < length xs + length ys) → posts t f m hold 0 0 0 (xs ++ (ys ++ zs)) ≡ posts t f m hold (length xs) 0 0 ys
+        pub posts_between : (xs ys zs : List show.Row) → length xs ≤ f.first → (1 ≤ length zs → f.last < length xs + length ys) → posts t f m hold 0 0 0 (xs ++ (ys ++ zs)) ≡ posts t f m hold (length xs) 0 0 ys
         posts_between xs ys zs a b =
             let e : 0 + length xs ≡ length xs = omega arith in
             posts_before 0 0 0 xs (ys ++ zs) (omega arith)

@@ -3,7 +3,7 @@ ghost use Rattle.std.specs.Prelude.{◌≡◌, true, false, cond};
 ghost use Rattle.rules.specs.Subject.{estimated};
 ghost use Rattle.rules.specs.Laid.{laid, with_standing, run as run_of, blank as blank_of};
 ghost use Rattle.rules.specs.Questions.{shares_fit};
-ghost use Rattle.rules.specs.Law.{row_of};
+ghost use Rattle.rules.specs.Shown.{row_of};
 ghost use Rattle.figures.specs.View.{seen, period_seen, sort_of};
 ghost use Rattle.sheet.specs.Rows.{periods, unread_by};
 

@@ -10,7 +10,7 @@ use Rattle.desk.specs.declared.fault.Fault.{Fault}
 use Rattle.desk.specs.Calls.{line_call, answered, with_call}
 use Rattle.desk.specs.Called.{outcome_of, Called}
 use Rattle.desk.specs.Lawful.{call_after}
-use Rattle.desk.proofs.Runs.{answered_so, answered_after}
+use Rattle.desk.proofs.Runs.{answered_so, answered_after, outcome_so}
 use Rattle.page.specs.declared.kept.Page.{Page}
 use Rattle.page.specs.declared.writes.Full.{Full}
 use Rattle.page.specs.Writes.{Wrote}
@@ -56,7 +56,7 @@ module _ {T : Type 0} (mean : T → Tariff) (a : Account T) (p : Page) (all : Li
         let t = mean a.tariff in
         let o = opening_of a in
         append_assoc g.written (told (outcome_of z)) _
-        ∙ ap (λ x. g.written ++ (told x ++ replies t o (with_call g.made (call_after o g.made l)) rest)) (s.answer ∙ ap (λ x. x.0) answered_here)
+        ∙ ap (λ x. g.written ++ (told x ++ replies t o (with_call g.made (call_after o g.made l)) rest)) (s.answer ∙ ap (λ x. x.0) answered_here ∙ outcome_so t o g.made (call_after o g.made l))
         ∙ ap (λ x. g.written ++ replies t o g.made x) (sym is)
         ∙ g.answers
 
@@ -74,8 +74,8 @@ module _ {T : Type 0} (mean : T → Tariff) (a : Account T) (p : Page) (all : Li
           made = with_call g.made (call_after o g.made l);
           written = g.written ++ told (outcome_of z);
           state = s.state ∙ ap (λ x. x.1) answered_here ∙ answered_after t o g.made (call_after o g.made l);
-          opening = s.opening ∙ g.opening;
-          tariff = s.tariff ∙ g.tariff;
+          opening = s.same.opening ∙ g.opening;
+          tariff = s.same.tariff ∙ g.tariff;
           page = g.page then w;
           answers = line_left;
           heard_all = ap (calls o g.made) (sym is) ∙ g.heard_all;

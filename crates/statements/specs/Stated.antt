@@ -2,7 +2,8 @@
 use Rattle.std.specs.Prelude.{◌≡◌, ℕ, Bool, ◌&&◌, List, [], ◌∷◌, ◌++◌, length, nat_le}
 use Rattle.rules.specs.Subject.{Tariff, Opening}
 use Rattle.rules.specs.Questions.{is_day}
-use Rattle.rules.specs.Law.{Shown, Law}
+use Rattle.rules.specs.Shown.{Shown}
+use Rattle.rules.specs.Law.{Law}
 use Rattle.tariff.specs.Hotel.{numbered}
 use Rattle.events.specs.Lines.{lines}
 use Rattle.page.specs.Writes.{padded}
@@ -23,7 +24,7 @@ text_asked t o text n = (22, is_text text) ∷ (21, nat_le (length (result_text 
 abbrev pub is_tariff : (number : ℕ) → Bool
 is_tariff number = nat_le 1 number && nat_le number 4
 
--- before these 2: are the tariff's number and the opening day in limits?
+-- first 2, are the tariff's number and the opening day in limits? then the questions of the text
 abbrev pub asked : (tariff day : ℕ) → (text : List ℕ) → (n : ℕ) → List (ℕ × Bool)
 asked tariff day text n = (2, is_tariff tariff) ∷ (2, is_day day) ∷ text_asked (numbered tariff) (opened_on day) text n
 

@@ -1,7 +1,7 @@
 -- The lines of a statement's page, as bytes; each ends with byte 10. Byte 44 is a comma, 65 an A. Assumes nothing.
 use Rattle.std.specs.Prelude.{ℕ, List, [], ◌∷◌, ◌++◌, ℤ, Some, None, codes, decimal, Option}
 use Rattle.std.specs.Fmt.{signed_decimal}
-use Rattle.rules.specs.Law.{Letter, B, C, P, Line}
+use Rattle.rules.specs.Shown.{Letter, B, C, P, Line}
 use Rattle.desk.specs.declared.fault.Layer.{Layer}
 use Rattle.desk.specs.declared.fault.Layer.TheVariants.{Reader, Method, Account}
 use Rattle.desk.specs.Calls.{Outcome}

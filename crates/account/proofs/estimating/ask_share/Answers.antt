@@ -2,7 +2,7 @@ use Rattle.std.proofs.Common.{sym, refl, ap, ◌∙◌}
 use Rattle.std.proofs.lemmas.Bool.{or_right}
 use Rattle.rules.specs.Laid.{laid, with_standing}
 use Rattle.rules.specs.Questions.{shares_fit}
-use Rattle.rules.specs.Law.{Row}
+use Rattle.rules.specs.Shown.{Row}
 use Rattle.sheet.specs.Rows.{unread_by}
 use Rattle.account.proofs.Calls.{pass}
 use Rattle.account.proofs.estimating.ask_share.Goals as goal

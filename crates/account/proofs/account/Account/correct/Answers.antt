@@ -1,7 +1,8 @@
 use Rattle.std.proofs.Common.{◌-◌, min, sym, refl, ap, ◌∙◌, arith}
 use Rattle.std.proofs.lemmas.Int.{ints}
 use Rattle.rules.specs.Subject.{correct}
-use Rattle.rules.specs.Machine.{posts, cents_of}
+use Rattle.rules.specs.Journal.{cents_of}
+use Rattle.rules.specs.Machine.{posts}
 use Rattle.method.specs.Uses.{finding_of}
 use Rattle.sums.specs.View.{Totals}
 use Rattle.account.specs.State.{state_of, opening_of}

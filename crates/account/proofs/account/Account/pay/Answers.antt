@@ -1,13 +1,13 @@
 use Rattle.std.proofs.Common.{◌≡◌, ℕ, ◌+◌, [], ◌∷◌, ℤ, pos, neg_ℤ, None, sym, refl, ap, ◌∙◌, ap₂, arith}
 use Rattle.rules.specs.Subject.{pay}
-use Rattle.rules.specs.Law as law
+use Rattle.rules.specs.Shown as show
 use Rattle.rules.specs.Machine.{effect}
 use Rattle.sums.specs.View.{Totals, totals, paid_by}
 use Rattle.account.proofs.Calls.{refused_by, appended_by, grown_by, grown_limit, changed_done}
 use Rattle.account.proofs.account.Account.pay.Goals as goal
 
-abbrev paying : ℕ → ℤ → law.Line
-paying hold cents = record { hold = hold; letter = law.P; row = None; cents = cents }
+abbrev paying : ℕ → ℤ → show.Line
+paying hold cents = record { hold = hold; letter = show.P; row = None; cents = cents }
 
 pub returns-in_err-hold : goal.returns-in_err-hold
 returns-in_err-hold g c =
