@@ -1,7 +1,7 @@
 -- From a call's own work to the step, and from the step to the law. Assumes nothing.
 use Rattle.std.proofs.Common.{◌≡◌, ℕ, ◌+◌, ◌≤◌, min, Bool, true, false, cond, ◌&&◌, eqb, ltb, leb, List, [], ◌∷◌, ◌++◌, map, length, take, drop, ℤ, pos, IsErrAnd, Some, None, Err, Option, Result, sym, refl, ap, ◌∙◌, subst, ap₂, arith}
 use Rattle.std.proofs.lemmas.List.{length-map, length-take-le}
-use Rattle.std.proofs.lemmas.Bool.{cond-true, cond-false, eq-eqb, ne_eqb, leb-true, and_parts}
+use Rattle.std.proofs.lemmas.Bool.{cond-true, cond-false, eq-eqb, ne_eqb, ltb-true, and_parts}
 use Rattle.rules.specs.Subject.{Tariff, Call, Opening}
 use Rattle.rules.specs.Questions.{question, asked, first_no, sheet_room, journal_room}
 use Rattle.std.proofs.lemmas.Result.{err_from_is_err_and}
@@ -9,7 +9,8 @@ use Rattle.rules.specs.Shown as show
 use Rattle.rules.specs.Law.{Law}
 use Rattle.rules.specs.Shown.{Answer}
 use Rattle.rules.specs.Machine.{State, opened, view, step, effect, worth, after, shown, periods_of}
-use Rattle.rules.proofs.Answers.{answers_law}
+use Rattle.rules.proofs.Holds.{numbered}
+use Rattle.rules.proofs.Worth.{answers_law}
 use Rattle.rules.proofs.Stands.{account_law}
 use Rattle.book.specs.Pages.{Pages, pages_of, written, appended, fresh}
 use Rattle.book.proofs.Room.{appended_room}
@@ -45,26 +46,6 @@ rows_few a rows e = let s = a.sheet.within_limit in let l = a.sheet_limit in ome
 pub periods_length : {T : Type 0} (a : Account T) → length (periods_of (state_of a)) ≡ a.sheet.filled
 periods_length a = length-map (rows_of (pages_of a.sheet)) _ ∙ rows_length a
 
--- the questions: 0 means that all said yes
-abbrev pub AllYes : List (ℕ × Bool) → Type 0
-AllYes [] = Unit
-AllYes (q ∷ qs) = (q.1 ≡ true) × AllYes qs
-
-abbrev pub numbered_from_one : List (ℕ × Bool) → Bool
-numbered_from_one [] = true
-numbered_from_one (q ∷ qs) = leb 1 q.0 && numbered_from_one qs
-
-one_yes : (n : ℕ) (b : Bool) (k : ℕ) → leb 1 n ≡ true → cond b k n ≡ 0 → (b ≡ true) × (k ≡ 0)
-one_yes n true k h e = (refl, e)
-one_yes n false k h e = absurd (omega (arith, e, leb-true 1 n h))
-
-pub all_yes : (qs : List (ℕ × Bool)) → numbered_from_one qs ≡ true → first_no qs ≡ 0 → AllYes qs
-all_yes [] h e = tt
-all_yes (q ∷ qs) h e =
-    let n = and_parts _ _ h in
-    let o = one_yes q.0 q.1 (first_no qs) n.0 e in
-    (o.0, all_yes qs n.1 o.1)
-
 -- a chain of questions: one that says yes is passed, one that says no gives its number
 pub pass : (b : Bool) (rest a x : ℕ) → b ≡ true → rest ≡ x → cond b rest a ≡ x
 pass b rest a x e k = cond-true b rest a e ∙ k
@@ -78,10 +59,10 @@ more_asked [] rest q h e = absurd (omega (arith, e))
 more_asked ((n, true) ∷ qs) rest q h e = more_asked qs rest q h e
 more_asked ((n, false) ∷ qs) rest q h e = e
 
-pub all_asked : (qs rest : List (ℕ × Bool)) (q : ℕ) → numbered_from_one qs ≡ true → first_no qs ≡ 0 → first_no rest ≡ q → first_no (qs ++ rest) ≡ q
+pub all_asked : (qs rest : List (ℕ × Bool)) (q : ℕ) → numbered qs ≡ true → first_no qs ≡ 0 → first_no rest ≡ q → first_no (qs ++ rest) ≡ q
 all_asked [] rest q h e k = k
 all_asked ((n, true) ∷ qs) rest q h e k = all_asked qs rest q (and_parts _ _ h).1 e k
-all_asked ((n, false) ∷ qs) rest q h e k = absurd (omega (arith, e, leb-true 1 n (and_parts _ _ h).0))
+all_asked ((n, false) ∷ qs) rest q h e k = absurd (omega (arith, e, ltb-true 0 n (and_parts _ _ h).0))
 
 -- a question that breaks off, at the exit of a `?`
 pub asked_err : {X : Type 0} (made : X → Type 0) (q : ℕ) (r : Result X Refusal) (e : Refusal) → IsErrAnd r (λ y. y ≡ e) → q ≡ number_of e → Asked q made r
@@ -90,8 +71,8 @@ asked_err made q r e b h = let p = err_from_is_err_and r b in subst (Asked q mad
 abbrev pub valued : ℤ → Answer
 valued v = record { number = 0; value = v }
 
-abbrev pub numbered : State → ℕ → Answer × State
-numbered s q = (record { number = q; value = pos 0 }, s)
+abbrev pub refused_with : State → ℕ → Answer × State
+refused_with s q = (record { number = q; value = pos 0 }, s)
 
 module _ {T : Type 0} (mean : T → Tariff) where
   module _ (a : Account T) (c : Call) where
@@ -105,7 +86,7 @@ module _ {T : Type 0} (mean : T → Tariff) where
     unfolding step
     step-refused q e h =
         cond-false (eqb asked_of 0) _ _ (ne_eqb asked_of 0 (λ z. omega (arith, z, e)))
-        ∙ ap (numbered (state_of a)) (sym e)
+        ∙ ap (refused_with (state_of a)) (sym e)
 
     step-accepted : asked_of ≡ 0 → result ≡ (record { number = 0; value = worth (mean a.tariff) (opening_of a) (state_of a) c }, effect (mean a.tariff) (opening_of a) (state_of a) c)
     unfolding step

@@ -13,7 +13,8 @@ use Rattle.sheet.specs.Lines.{Grown}
 use Rattle.sums.specs.View.{totals, corrected_by}
 use Rattle.account.specs.declared.account.Account.{Account}
 use Rattle.account.specs.State.{state_of, opening_of}
-use Rattle.account.proofs.Calls.{all_yes, room_said, periods_length, made}
+use Rattle.rules.proofs.Holds.{all_yes}
+use Rattle.account.proofs.Calls.{room_said, periods_length, made}
 
 -- what an accepted correction knows
 pub record Correctable {T : Type 0} (a : Account T) (f : Finding) (m : Method) : Type 0 where

@@ -8,7 +8,7 @@ use Rattle.rules.specs.Law.{Law}
 use Rattle.rules.specs.Machine.{State, view, periods_of, after, shown}
 use Rattle.rules.proofs.Runs.{view_ran, after_ran}
 use Rattle.rules.specs.Shown.{Answer}
-use Rattle.rules.proofs.Answers.{answers_law}
+use Rattle.rules.proofs.Worth.{answers_law}
 use Rattle.rules.proofs.Stands.{account_law}
 use Rattle.account.specs.declared.account.Account as account
 use Rattle.account.specs.State.{state_of, opening_of}

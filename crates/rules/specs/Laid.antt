@@ -47,7 +47,7 @@ unread first last m ps =
 abbrev pub in_span : Finding → ℕ → Bool
 in_span f row = nat_le f.first row && nat_le row f.last
 
--- for cause A only the estimated rows are rewritten
+-- for the cause absent only the estimated rows are rewritten
 abbrev pub rewrites_sort : Cause → Sort → Bool
 rewrites_sort absent s = is_estimated s
 rewrites_sort under s = true

@@ -1,6 +1,6 @@
 -- The questions before a call is accepted. Assumes nothing.
-use Rattle.std.specs.Prelude.{ℕ, zero, suc, ◌+◌, ◌-◌, min, Bool, true, false, cond, not, ◌&&◌, ◌||◌, leb, List, [], ◌∷◌, length, Some, None, Option, ◌==◌, nat_eq, nat_le, nat_lt}
-use Rattle.rules.specs.Subject.{Registers, longest, Sort, Period, is_read, is_unmetered, unmetered, Cause, absent, under, over, stopped, altered, Side, consumer, supplier, Finding, estimates, correcting, Call, take, hand_back, bill, estimate, correct, pay, Opening}
+use Rattle.std.specs.Prelude.{ℕ, zero, suc, ◌+◌, ◌-◌, min, Bool, true, false, cond, not, ◌&&◌, ◌||◌, List, [], ◌∷◌, length, Some, None, Option, ◌==◌, nat_eq, nat_le, nat_lt}
+use Rattle.rules.specs.Subject.{Registers, longest, Sort, Period, is_read, is_unmetered, unmetered, Cause, absent, under, over, stopped, altered, Side, consumer, supplier, Finding, Method, estimates, correcting, Call, take, hand_back, bill, estimate, correct, pay, Opening}
 use Rattle.rules.specs.Laid.{next_day, run, unread, in_span, rewritten, corrected}
 
 pub record Hold : Type 0 where
@@ -24,16 +24,19 @@ journal_room o = min o.journal 1024
 abbrev pub stands : Books → ℕ → Bool
 stands b hold = elim b.holding [ Some h ↦ nat_eq h.number hold | None ↦ false ]
 
--- 11: no hold stands, or it has run out
-abbrev pub is_free : Books → ℕ → Bool
-is_free b now = elim b.holding [ Some h ↦ leb h.until now | None ↦ true ]
-
 -- 2: the figures in limits
 abbrev pub is_day : ℕ → Bool
 is_day n = nat_le n 18262
 
 abbrev pub is_reading : Registers → Bool
 is_reading r = nat_le r.day 1000000 && nat_le r.peak 1000000 && nat_le r.demand 10000
+
+abbrev pub is_payment : (cents : ℕ) → Bool
+is_payment cents = nat_le 1 cents && nat_le cents 1000000000000
+
+-- the time of a take, and its length
+abbrev pub is_time : (now length : ℕ) → Bool
+is_time now length = nat_le now 1000000000000 && (nat_le 1 length && nat_le length 86400)
 
 -- 4: first to last has at least one day and no more than the longest period
 abbrev pub is_term : (first last : ℕ) → Bool
@@ -52,6 +55,10 @@ row_is q (p ∷ ps) (suc row) = row_is q ps row
 
 abbrev pub has_day : ℕ → Period → Bool
 has_day n p = nat_le p.first n && nat_le n p.last
+
+-- 5: the span is in order, and its last row is billed
+abbrev pub is_billed : Finding → List Period → Bool
+is_billed f ps = nat_le f.first f.last && nat_lt f.last (length ps)
 
 abbrev pub size : Finding → ℕ
 size f = f.last + 1 - f.first
@@ -85,11 +92,17 @@ is_absent altered = false
 abbrev pub adjoins : Finding → ℕ → Bool
 adjoins f row = row + 1 == f.first || row == f.last + 1
 
--- 6: the rows are of the cause's sort, and for A no unmetered row that adjoins is left out
+-- a row of the span is of the cause's sort
+abbrev pub sort_fits : Finding → ℕ → Period → Bool
+sort_fits f row p = not (in_span f row) || of_sort f.cause p.sort
+
+-- a row that adjoins is not unmetered
+abbrev pub not_left_out : Finding → ℕ → Period → Bool
+not_left_out f row p = not (adjoins f row) || not (unmetered p)
+
+-- 6: the rows are of the cause's sort, and for absent no unmetered row that adjoins is left out
 abbrev pub sorts_right : Finding → List Period → Bool
-sorts_right f ps =
-    every (λ row p. not (in_span f row) || of_sort f.cause p.sort) 0 ps
-    && (not (is_absent f.cause) || every (λ row p. not (adjoins f row) || not (unmetered p)) 0 ps)
+sorts_right f ps = every (sort_fits f) 0 ps && (not (is_absent f.cause) || every (not_left_out f) 0 ps)
 
 -- 7: the rest of the cause's rule
 abbrev pub span_right : Cause → Side → Finding → List Period → Bool
@@ -108,6 +121,14 @@ abbrev pub all_fit : List Period → Bool
 all_fit [] = true
 all_fit (p ∷ ps) = shares_fit p && all_fit ps
 
+-- so are those of the rows that a correction rewrites
+abbrev pub corrected_fit : Finding → Method → List Period → Bool
+corrected_fit f m ps = all_fit (rewritten f 0 (corrected f m 0 0 0 ps))
+
+-- 11: no hold stands, or it has run out
+abbrev pub is_free : Books → ℕ → Bool
+is_free b now = elim b.holding [ Some h ↦ nat_le h.until now | None ↦ true ]
+
 -- what the opening asks: is its day in limits?
 abbrev pub opening_asked : (day : ℕ) → List (ℕ × Bool)
 opening_asked day = (2, is_day day) ∷ []
@@ -115,7 +136,7 @@ opening_asked day = (2, is_day day) ∷ []
 -- the questions of each call by their numbers, in order, each with its answer
 unfoldable pub asked : Opening → Books → Call → List (ℕ × Bool)
 asked o b (take now length) =
-    (2, nat_le now 1000000000000 && (nat_le 1 length && nat_le length 86400))
+    (2, is_time now length)
     ∷ (11, is_free b now)
     ∷ (12, nat_lt b.granted 4294967295) ∷ []
 asked o b (hand_back hold) = (1, stands b hold) ∷ []
@@ -127,7 +148,7 @@ asked o b (bill hold last r) =
     ∷ (10, nat_le (b.used + 1) (journal_room o)) ∷ []
 asked o b (estimate hold last m) =
     let row = length b.periods in
-    let late = leb 6 (run b.periods) in
+    let late = nat_le 6 (run b.periods) in
     (1, stands b hold)
     ∷ (2, is_day last)
     ∷ (3, nat_lt row (sheet_room o))
@@ -138,15 +159,15 @@ asked o b (estimate hold last m) =
 asked o b (correct hold f m) =
     (1, stands b hold)
     ∷ (2, is_day f.notice)
-    ∷ (5, nat_le f.first f.last && nat_lt f.last (length b.periods))
+    ∷ (5, is_billed f b.periods)
     ∷ (6, sorts_right f b.periods)
     ∷ (7, span_right f.cause f.side f b.periods)
     ∷ (8, m.serves (correcting f.cause) && m.fits (correcting f.cause) f.first f.last)
-    ∷ (9, all_fit (rewritten f 0 (corrected f m 0 0 0 b.periods)))
+    ∷ (9, corrected_fit f m b.periods)
     ∷ (10, nat_le (b.used + length (rewritten f 0 b.periods)) (journal_room o)) ∷ []
 asked o b (pay hold cents) =
     (1, stands b hold)
-    ∷ (2, nat_le 1 cents && nat_le cents 1000000000000)
+    ∷ (2, is_payment cents)
     ∷ (10, nat_le (b.used + 1) (journal_room o)) ∷ []
 
 -- the number of the first no, or 0

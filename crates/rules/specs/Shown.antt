@@ -26,6 +26,7 @@ pub record Instalment : Type 0 where
   pub cents : ℕ
   pub count : ℕ
 
+-- what an account shows: its sums, its coming instalments, its rows and its lines
 pub record Shown : Type 0 where
   pub balance : ℤ
   pub due : ℤ

@@ -24,6 +24,7 @@ pub data Register : Type 0 where
 abbrev pub longest : ℕ
 longest = 100
 
+-- read; unmetered and estimated; unmetered and without energy
 pub data Sort : Type 0 where
   read estimated no_energy : Sort
 
@@ -59,20 +60,22 @@ unmetered p = is_unmetered p.sort
 -- a tariff's meaning, in cents: an energy charge on a last day and registers, a standing charge on a last day and a demand
 pub record Tariff : Type 0 where
   pub energy : ℕ → Registers → ℕ
-  pub fixed : ℕ → ℕ → ℕ
+  pub standing : ℕ → ℕ → ℕ
   pub energy_limit : (last : ℕ) (r : Registers) → energy last r ≤ 100000 * (r.day + r.peak)
-  pub fixed_limit : (last demand : ℕ) → demand ≤ 10000 → fixed last demand ≤ 10000000000
+  pub standing_limit : (last demand : ℕ) → demand ≤ 10000 → standing last demand ≤ 10000000000
 
 -- a tariff's charge on registers at a last day, and on a period: what stands in its row
 abbrev pub charge_on : Tariff → ℕ → Registers → ℕ
-charge_on t last r = t.energy last r + t.fixed last r.demand
+charge_on t last r = t.energy last r + t.standing last r.demand
 
 abbrev pub charge : Tariff → Period → ℕ
 charge t p = charge_on t p.last p.standing
 
+-- why rows are corrected: no reading could be had, the meter showed less than was used, or more, it stood still, or it was altered
 pub data Cause : Type 0 where
   absent under over stopped altered : Cause
 
+-- who reported or found it
 pub data Side : Type 0 where
   consumer supplier : Side
 
@@ -85,6 +88,7 @@ pub record Finding : Type 0 where
   pub first : ℕ
   pub last : ℕ
 
+-- what a method is asked for
 pub data Use : Type 0 where
   estimates : Use
   correcting : Cause → Use
@@ -115,7 +119,7 @@ day_weight m = weight_of m day_units
 abbrev pub peak_weight : Method → Period → ℕ
 peak_weight m = weight_of m peak_units
 
--- the six calls
+-- the six calls: a hold is taken at a time and for a length, in seconds; each other call names its hold
 pub data Call : Type 0 where
   take : (now length : ℕ) → Call
   hand_back : (hold : ℕ) → Call

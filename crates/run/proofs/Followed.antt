@@ -1,4 +1,4 @@
--- One call more. Assumes nothing.
+-- Calls made one after another: what they leave as it was, and the law. Assumes nothing.
 use Rattle.std.proofs.Common.{◌≡◌, ℕ, suc, pos, ◌+◌, ◌-◌, ◌≤◌, Bool, true, false, cond, eqb, List, [], ◌∷◌, ◌++◌, length, drop, sym, refl, ap, ◌∙◌, subst, arith}
 use Rattle.std.proofs.lemmas.Bool.{cond_both}
 use Rattle.std.proofs.lemmas.List.{length-append, drop-drop}
@@ -8,7 +8,7 @@ use Rattle.rules.specs.Questions.{question}
 use Rattle.rules.specs.Shown.{Row, Answer}
 use Rattle.rules.specs.Law.{Law}
 use Rattle.rules.specs.Machine.{State, view, relay, effect, worth, step, after, shown}
-use Rattle.rules.proofs.Runs.{of_cond}
+use Rattle.rules.proofs.Runs.{length-relay}
 use Rattle.rules.proofs.Stands.{account_law}
 use Rattle.figures.specs.declared.row.Row as figures-row
 use Rattle.figures.specs.declared.line.Line as figures-line
@@ -17,30 +17,22 @@ use Rattle.account.specs.State.{state_of, opening_of, Lawful, opened_over, Opene
 use Rattle.account.proofs.Calls.{rows_length, lines_length}
 use Rattle.run.specs.Runs.{Moved, onto, Follows, KeepsLaw}
 
-length-relay : (t : Tariff) (f : Finding) (m : Method) (row V W : ℕ) (rs : List Row) → length (relay t f m row V W rs) ≡ length rs
-unfolding relay
-length-relay t f m row V W [] = refl
-length-relay t f m row V W (r ∷ rs) =
-    of_cond length (rewrites f row r.period)
-    (ap suc (length-relay t f m (suc row) (V + day_weight m r.period) (W + peak_weight m r.period) rs))
-    (ap suc (length-relay t f m (suc row) V W rs))
-
 -- rows and lines of one state are no more than those of another
 record NoMore (s s' : State) : Type 0 where
   rows : length s.rows ≤ length s'.rows
   lines : length s.lines ≤ length s'.lines
 
-more : {X : Type 0} (xs ys : List X) → length xs ≤ length (xs ++ ys)
-more xs ys = omega (arith, length-append xs ys)
+longer : {X : Type 0} (xs ys : List X) → length xs ≤ length (xs ++ ys)
+longer xs ys = omega (arith, length-append xs ys)
 
 effect_grows : (t : Tariff) (o : Opening) (s : State) (c : Call) → NoMore s (effect t o s c)
 unfolding effect
 effect_grows t o s (take now length) = record { rows = omega arith; lines = omega arith }
 effect_grows t o s (hand_back hold) = record { rows = omega arith; lines = omega arith }
-effect_grows t o s (bill hold last r) = record { rows = more s.rows _; lines = more s.lines _ }
-effect_grows t o s (estimate hold last m) = record { rows = more s.rows _; lines = more s.lines _ }
-effect_grows t o s (correct hold f m) = record { rows = omega (arith, length-relay t f m 0 0 0 s.rows); lines = more s.lines _ }
-effect_grows t o s (pay hold cents) = record { rows = omega arith; lines = more s.lines _ }
+effect_grows t o s (bill hold last r) = record { rows = longer s.rows _; lines = longer s.lines _ }
+effect_grows t o s (estimate hold last m) = record { rows = longer s.rows _; lines = longer s.lines _ }
+effect_grows t o s (correct hold f m) = record { rows = omega (arith, length-relay t f m 0 0 0 s.rows); lines = longer s.lines _ }
+effect_grows t o s (pay hold cents) = record { rows = omega arith; lines = longer s.lines _ }
 
 -- no step takes a row or a line away
 step_grows : (t : Tariff) (o : Opening) (s : State) (c : Call) → NoMore s (step t o s c).1

@@ -4,11 +4,11 @@ use Rattle.std.specs.List.{list_all}
 use Rattle.std.proofs.lemmas.List.{take-append-drop, length-take-le, length-drop, length-map, map-append, drop-drop, drop-take, take-take}
 use Rattle.rules.specs.Subject.{Period, Tariff, Finding, Method}
 use Rattle.rules.specs.Laid.{in_span, rewrites_sort, rewrites, rewritten, corrected}
-use Rattle.rules.specs.Questions.{of_sort, every}
+use Rattle.rules.specs.Questions.{of_sort, every, sort_fits}
 use Rattle.rules.specs.Machine.{period_of, relay, posts}
 use Rattle.figures.specs.View.{seen, period_seen}
 use Rattle.figures.specs.declared.row.Row.{Row}
-use Rattle.sheet.specs.Rows.{periods, span_start, span_end, covered, sort_fits}
+use Rattle.sheet.specs.Rows.{periods, span_start, span_end, covered}
 use Rattle.sheet.proofs.Beside.{within_span, rewrites_inside, rewritten_between, asked_between, relay_between, posts_between}
 use Rattle.sheet.proofs.Sorts.{every_between}
 

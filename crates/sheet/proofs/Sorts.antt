@@ -3,10 +3,10 @@ use Rattle.std.proofs.Common.{◌≡◌, ℕ, suc, ◌+◌, ◌<◌, ◌≤◌, 
 use Rattle.std.specs.List.{list_all}
 use Rattle.rules.specs.Subject.{Period, Finding}
 use Rattle.rules.specs.Laid.{in_span}
-use Rattle.rules.specs.Questions.{of_sort, every}
+use Rattle.rules.specs.Questions.{of_sort, every, sort_fits}
 use Rattle.figures.specs.View.{period_seen}
 use Rattle.figures.specs.declared.row.Row.{Row}
-use Rattle.sheet.specs.Rows.{periods, sort_fits}
+use Rattle.sheet.specs.Rows.{periods}
 use Rattle.sheet.proofs.Beside.{before_span, past_span, shifted}
 
 module _ (f : Finding) where

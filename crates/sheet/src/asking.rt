@@ -1,7 +1,7 @@
 // The questions of a correction about what it lays down.
 ghost use Rattle.std.specs.Prelude.{◌≡◌, ◌≤◌, true, length};
-ghost use Rattle.rules.specs.Laid.{rewritten, corrected};
-ghost use Rattle.rules.specs.Questions.{all_fit};
+ghost use Rattle.rules.specs.Laid.{rewritten};
+ghost use Rattle.rules.specs.Questions.{corrected_fit};
 ghost use Rattle.method.specs.Uses.{finding_of};
 ghost use Rattle.sheet.specs.Rows.{periods};
 
@@ -25,7 +25,7 @@ impl<'a> Found<'a> {
     /// Whether the rows that a correction rewrites have shares that keep the limit all together, and so each alone.
     fn fit_together<M: Method>(&self, m: &M) -> bool
         requires { length self.now.rows.now ≤ 120 }
-        ensures { result ≡ true → all_fit (rewritten (finding_of self.now.finding) 0 (corrected (finding_of self.now.finding) (M.Method.meaning m.now) 0 0 0 (periods self.now.rows.now))) ≡ true }
+        ensures { result ≡ true → corrected_fit (finding_of self.now.finding) (M.Method.meaning m.now) (periods self.now.rows.now) ≡ true }
     {
         let mut weights = NONE.weights;
         let rows = self.covered();
@@ -40,7 +40,7 @@ impl<'a> Found<'a> {
     /// Whether each share of the rows that a correction rewrites keeps the limit.
     fn each_fits<M: Method>(&self, m: &M) -> bool
         requires { length self.now.rows.now ≤ 120 }
-        ensures { result ≡ all_fit (rewritten (finding_of self.now.finding) 0 (corrected (finding_of self.now.finding) (M.Method.meaning m.now) 0 0 0 (periods self.now.rows.now))) }
+        ensures { result ≡ corrected_fit (finding_of self.now.finding) (M.Method.meaning m.now) (periods self.now.rows.now) }
     {
         let mut sharing = NONE;
         let rows = self.covered();
@@ -59,7 +59,7 @@ impl<'a> Found<'a> {
     /// once for each register, and not once for each register of each row.
     pub fn shares_fit<M: Method>(&self, m: &M) -> bool
         requires { length self.now.rows.now ≤ 120 }
-        ensures { result ≡ all_fit (rewritten (finding_of self.now.finding) 0 (corrected (finding_of self.now.finding) (M.Method.meaning m.now) 0 0 0 (periods self.now.rows.now))) }
+        ensures { result ≡ corrected_fit (finding_of self.now.finding) (M.Method.meaning m.now) (periods self.now.rows.now) }
     {
         self.fit_together(m) || self.each_fits(m)
     }

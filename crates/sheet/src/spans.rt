@@ -1,10 +1,10 @@
 // Whether the span of a finding is right: whether it is billed, the sorts of its rows, and the rule of its cause.
 ghost use Rattle.std.specs.Prelude.{◌≡◌, ◌+◌, ◌-◌, ◌&&◌, Bool, nat_lt};
 ghost use Rattle.rules.specs.Subject.{Period, is_read, unmetered};
-ghost use Rattle.rules.specs.Questions.{of_sort, row_is, has_day, span_right as rule-kept, sorts_right as sorts-are-right, every};
+ghost use Rattle.rules.specs.Questions.{of_sort, row_is, has_day, span_right as rule-kept, sorts_right as sorts-are-right, every, is_billed, sort_fits, not_left_out};
 ghost use Rattle.figures.specs.View.{sort_of};
 ghost use Rattle.method.specs.Uses.{finding_of, cause_of, side_of};
-ghost use Rattle.sheet.specs.Rows.{periods, is_billed, sort_fits, not_left_out};
+ghost use Rattle.sheet.specs.Rows.{periods};
 
 use crate::found::Found;
 use figures::row::{Row, Sort};
