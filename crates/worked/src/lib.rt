@@ -4,8 +4,6 @@
 ghost use Rattle.worked.specs.Worked.{WorkedFigures};
 
 // The definitions give every figure of the table.
-pub fn worked_figures_stand() -> u8
+pub fn worked_figures_stand()
     ensures { WorkedFigures }
-{
-    0
-}
+{}
