@@ -1,5 +1,6 @@
 // Figures as they are reported, each in its unit, in limits or not.
 ghost use Rattle.std.specs.Prelude.{◌≡◌, ℕ};
+ghost use Rattle.figures.specs.Faults.{number_of};
 
 /// A number of units, of any size.
 pub trait Figure: Copy {
@@ -65,3 +66,12 @@ pub struct Reading {
 /// A figure is out of its limits.
 #[derive(Clone, Copy)]
 pub struct OutOfLimits;
+
+impl OutOfLimits {
+    /// The number of the question that was answered no.
+    pub fn number(self) -> u32
+        ensures { result ≡ number_of self }
+    {
+        2
+    }
+}

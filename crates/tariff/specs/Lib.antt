@@ -1,4 +1,5 @@
-pub mod Hotel
+pub mod Making
 pub mod Limits
 pub mod Meaning
 pub mod Meant
+pub mod Hotel
