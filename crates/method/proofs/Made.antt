@@ -1,18 +1,17 @@
 -- What the code makes is the method that is meant. Assumes nothing.
-use Rattle.std.proofs.Common.{◌≡◌, ℕ, zero, suc, ◌+◌, ◌*◌, ◌/◌, Bool, true, List, Ok, refl, ap, arith}
+use Rattle.std.proofs.Common.{◌≡◌, ℕ, zero, suc, ◌+◌, ◌*◌, ◌/◌, ◌≤◌, Bool, true, List, Ok, refl, ap, arith}
 use Rattle.rules.specs.Subject.{Period, Use, Method}
 use Rattle.rules.specs.Questions.{first_no}
-use Rattle.method.specs.declared.test_meter.TestMeter.{TestMeter}
 use Rattle.method.specs.declared.category.Category.{Category}
 use Rattle.method.specs.declared.contract_demand.ContractDemand.{ContractDemand}
 use Rattle.method.specs.declared.three_rows.ThreeRows.{ThreeRows}
 use Rattle.method.specs.declared.previous_three.PreviousThree.{PreviousThree}
 use Rattle.method.specs.declared.later_three.LaterThree.{LaterThree}
-use Rattle.method.specs.Meaning.{part, daily, test_fits, of_both, stopping, missing, just_before, just_after}
+use Rattle.method.specs.Meaning.{test_fits, by_test, part, daily, of_both, stopping, missing, just_before, just_after}
 use Rattle.method.specs.Three.{three_from, are_three}
 use Rattle.method.specs.Making.{test_asked, category_asked, contract_asked, previous_asked, later_asked}
 use Rattle.method.specs.Made.{made_if, test_made, category_made, contract_made, made_of_rows, previous_made, later_made}
-use Rattle.method.specs.Meant.{test_of, category_of, contract_of, three_of, previous_of, later_of}
+use Rattle.method.specs.Meant.{category_of, contract_of, three_of, previous_of, later_of}
 use Rattle.method.specs.Reckoned.{Reckoned}
 use Rattle.method.proofs.Same.{same_method}
 
@@ -21,10 +20,11 @@ pub passed : (q : ℕ) (make : q ≡ 0 → Method) (m : Method) → q ≡ 0 → 
 passed zero make m all same = ap (λ (x : Method). Ok x) (same refl)
 passed (suc q) make m all same = absurd (omega arith)
 
-pub test_made_of : (m : TestMeter) (shown tested : ℕ) → first_no (test_asked shown tested) ≡ 0 → m.shown.figure.0 ≡ shown → m.tested.figure.0 ≡ tested → Ok (test_of m) ≡ test_made shown tested
-test_made_of m shown tested all is-shown is-tested =
-    passed _ _ (test_of m) all
-    (λ e. same_method (test_of m) _ refl (λ i u first last. test_fits (is-shown i) (is-tested i) u) (λ i k. is-tested i) is-shown refl refl)
+-- of the parts of a test meter that its meaning rests on
+pub test_made_of : {m n : ℕ} {turned : 1 ≤ m} (m-most : m ≤ 1000000) (n-most : n ≤ 1000000) (shown tested : ℕ) → first_no (test_asked shown tested) ≡ 0 → m ≡ shown → n ≡ tested → Ok (by_test m n turned m-most n-most) ≡ test_made shown tested
+test_made_of m-most n-most shown tested all is-shown is-tested =
+    passed _ _ _ all
+    (λ e. same_method _ _ refl (λ i u first last. test_fits (is-shown i) (is-tested i) u) (λ i k. is-tested i) is-shown refl refl)
 
 pub category_made_of : (m : Category) (figure s demand : ℕ) → first_no (category_asked figure s demand) ≡ 0 → m.figure.figure.0 ≡ figure → m.peak.figure ≡ s → m.demand.figure.0 ≡ demand → Ok (category_of m) ≡ category_made figure s demand
 category_made_of m figure s demand all is_figure is-s is-demand =

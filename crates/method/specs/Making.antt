@@ -17,13 +17,17 @@ number_of NoUnits = 17
 abbrev pub apart : ℕ → ℕ → ℕ
 apart m n = (m - n) + (n - m)
 
--- 15: the meter is off by more than a fortieth, 2.5 per cent, of what the test meter showed
+-- the meter is off by more than a fortieth, 2.5 per cent, of what the test meter showed
+abbrev pub is_off : (shown tested : ℕ) → Bool
+is_off shown tested = nat_lt tested (40 * apart shown tested)
+
+-- 13: the test meter showed something; 14: the meter did; 15: it is off
 abbrev pub test_asked : (shown tested : ℕ) → List (ℕ × Bool)
 test_asked shown tested =
     (2, nat_le shown 1000000 && nat_le tested 1000000)
     ∷ (13, nat_lt 0 tested)
     ∷ (14, nat_lt 0 shown)
-    ∷ (15, nat_lt tested (40 * apart shown tested)) ∷ []
+    ∷ (15, is_off shown tested) ∷ []
 
 abbrev pub category_asked : (figure s demand : ℕ) → List (ℕ × Bool)
 category_asked figure s demand = (2, nat_le figure 1000000 && nat_le s 100 && nat_le demand 10000) ∷ []

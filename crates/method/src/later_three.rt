@@ -19,10 +19,10 @@ use figures::row::{Recorded, Row};
 use figures::units::{Demand, Register};
 
 /// No twin of the previous three: it asks other questions, serves other uses and fits another span. What they share is
-/// `ThreeRows`; a trait for the two places beside a span would be longer than the lines it saves.
+/// `ThreeRows`; a trait for the two places beside a span would be longer than the lines it saves. Made of rows by `new` alone.
 #[derive(Clone, Copy)]
 pub struct LaterThree {
-    pub three: ThreeRows,
+    pub(crate) three: ThreeRows,
 }
 
 impl LaterThree {

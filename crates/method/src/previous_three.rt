@@ -18,9 +18,10 @@ use crate::uses::Uses;
 use figures::row::{Recorded, Row};
 use figures::units::{Demand, Register};
 
+/// Made of rows by `new` alone, so its questions were asked.
 #[derive(Clone, Copy)]
 pub struct PreviousThree {
-    pub three: ThreeRows,
+    pub(crate) three: ThreeRows,
 }
 
 impl PreviousThree {

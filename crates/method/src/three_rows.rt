@@ -6,11 +6,11 @@ use figures::units::Demand;
 /// Their first row's number, their recorded units of each register, their days, and the average of their recorded demands.
 #[derive(Clone, Copy)]
 pub struct ThreeRows {
-    pub from: u64,
-    pub day: u64,
-    pub peak: u64,
-    pub days: u64,
-    pub demand: Demand,
+    pub(crate) from: u64,
+    pub(crate) day: u64,
+    pub(crate) peak: u64,
+    pub(crate) days: u64,
+    pub(crate) demand: Demand,
     ghost day_most: { day ≤ 3000000 },
     ghost peak_most: { peak ≤ 3000000 },
     ghost days_least: { 1 ≤ days },
