@@ -1,9 +1,9 @@
-pub mod Making
+pub mod Uses
 pub mod Meaning
 pub mod Meant
-pub mod Reckoned
 pub mod Three
-pub mod ReadRows
-pub mod Uses
+pub mod Reckoned
+pub mod Making
 pub mod Limits
 pub mod Made
+pub mod ReadRows
