@@ -7,8 +7,8 @@ use Rattle.rules.specs.Questions.{question, asked, first_no, sheet_room, journal
 use Rattle.std.proofs.lemmas.Result.{err_from_is_err_and}
 use Rattle.rules.specs.Shown as show
 use Rattle.rules.specs.Law.{Law}
-use Rattle.rules.specs.Shown.{Answer}
 use Rattle.rules.specs.Machine.{State, opened, view, step, effect, worth, after, shown, periods_of}
+use Rattle.rules.specs.Shown.{Answer}
 use Rattle.rules.proofs.Holds.{numbered}
 use Rattle.rules.proofs.Worth.{answers_law}
 use Rattle.rules.proofs.Stands.{account_law}
@@ -22,8 +22,8 @@ use Rattle.sheet.proofs.Relaid.{grown_none, grown_more}
 use Rattle.sums.specs.View.{Totals, totals, nothing}
 use Rattle.rules.specs.Questions as Questions
 use Rattle.account.specs.declared.account.Account.{Account}
-use Rattle.account.specs.declared.answer.Refusal.{Refusal}
-use Rattle.account.specs.declared.answer.Refusal.TheVariants.{NoHold, Figures, SheetFull, Period, NotBilled, WrongSort, WrongSpan, NoFit, ShareTooLarge, JournalFull, Held, NoNumber}
+use Rattle.account.specs.declared.refusal.Refusal.{Refusal}
+use Rattle.account.specs.declared.refusal.Refusal.TheVariants.{NoHold, Figures, SheetFull, Period, NotBilled, WrongSort, WrongSpan, NoFit, ShareTooLarge, JournalFull, Held, NoNumber}
 use Rattle.sheet.specs.Rows.{rows_of}
 use Rattle.account.specs.Answers.{number_of, answered, Asked}
 use Rattle.account.specs.State.{hold_of, state_of, opening_of, Same, Stepped, LawfulAfter, opened_over, Opened}

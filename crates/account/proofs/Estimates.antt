@@ -2,25 +2,25 @@
 use Rattle.std.proofs.Common.{◌≡◌, ℕ, ◌+◌, Bool, true, false, ◌&&◌, ◌||◌, ltb, leb, List, [], ◌∷◌, ◌++◌, length, sym, refl, ap, ◌∙◌, ap₂}
 use Rattle.std.proofs.lemmas.Bool.{cond-true, cond-false, lt-ltb, le-ltb, leb-true, leb-false}
 use Rattle.rules.specs.Subject.{Period, estimated, estimates, Method, estimate, Opening}
-use Rattle.rules.specs.Laid.{next_day, run, blank, laid, with_standing, unread}
+use Rattle.rules.specs.Laid.{next_day, run, blank, laid, with_standing, without_reading}
 use Rattle.rules.specs.Questions.{Books, stands, is_day, is_term, sheet_room, journal_room, shares_fit, first_no, asked, question}
 use Rattle.rules.specs.Machine.{periods_of, view}
-use Rattle.sheet.specs.Rows.{unread_by}
+use Rattle.sheet.specs.Rows.{unmetered_by}
 use Rattle.account.specs.declared.account.Account.{Account}
 use Rattle.account.specs.Estimates.{share_asked}
 use Rattle.account.specs.State.{state_of, opening_of}
 use Rattle.account.proofs.Calls.{periods_length}
 
 -- the unmetered period, by whether it is late
-pub unread_is : (first last : ℕ) (m : Method) (ps : List Period) → unread first last m ps ≡ unread_by (leb 6 (run ps)) first last m
-unfolding unread
-unread_is first last m ps =
-    elim (leb 6 (run ps)) as (λ b. leb 6 (run ps) ≡ b → unread first last m ps ≡ unread_by b first last m) [
+pub unmetered_is : (first last : ℕ) (m : Method) (ps : List Period) → without_reading first last m ps ≡ unmetered_by (leb 6 (run ps)) first last m
+unfolding without_reading
+unmetered_is first last m ps =
+    elim (leb 6 (run ps)) as (λ b. leb 6 (run ps) ≡ b → without_reading first last m ps ≡ unmetered_by b first last m) [
       | true ↦ λ e. cond-false (ltb (run ps) 6) _ _ (le-ltb (run ps) 6 (leb-true _ _ e))
       | false ↦ λ e. cond-true (ltb (run ps) 6) _ _ (lt-ltb (run ps) 6 (leb-false _ _ e))
     ] refl
 
-late_fits : (late : Bool) (first last : ℕ) (m : Method) → (late || shares_fit (unread_by late first last m)) ≡ (late || shares_fit (with_standing (laid m 0 0 (blank first last estimated)) (blank first last estimated)))
+late_fits : (late : Bool) (first last : ℕ) (m : Method) → (late || shares_fit (unmetered_by late first last m)) ≡ (late || shares_fit (with_standing (laid m 0 0 (blank first last estimated)) (blank first last estimated)))
 late_fits true first last m = refl
 late_fits false first last m = refl
 
@@ -53,4 +53,4 @@ listed a hold last place first m p f =
     let day = next_day a.opening.figure ps in
     let late = leb 6 (run ps) in
     sym (ap₂ (λ x y. first_no (estimate_list o b hold last x y m)) (p ∙ sym (periods_length a)) f
-    ∙ ap (λ n. first_no (with_nine o b hold last day m n)) (sym (late_fits late day last m) ∙ ap (λ q. late || shares_fit q) (sym (unread_is day last m ps))))
+    ∙ ap (λ n. first_no (with_nine o b hold last day m n)) (sym (late_fits late day last m) ∙ ap (λ q. late || shares_fit q) (sym (unmetered_is day last m ps))))

@@ -43,12 +43,12 @@ past_by p q x e =
 abbrev pub bill_line : (hold row : ℕ) → ℤ → show.Line
 bill_line hold row cents = record { hold = hold; letter = show.B; row = Some row; cents = cents }
 
-abbrev pub made_of : {T : Type 0} → Account T → (hold row : ℕ) → show.Row → State
-made_of a hold place r = made a (rows_of (pages_of a.sheet) ++ (r ∷ [])) (bill_line hold place (pos r.cents) ∷ []) (billed_by (totals a.sums) r.cents)
+abbrev pub billed_more : {T : Type 0} → Account T → (hold row : ℕ) → show.Row → State
+billed_more a hold place r = made a (rows_of (pages_of a.sheet) ++ (r ∷ [])) (bill_line hold place (pos r.cents) ∷ []) (billed_by (totals a.sums) r.cents)
 
 -- a row entered is what a bill or an estimate does
-pub entered_is : {T : Type 0} (t : Tariff) (a : Account T) (hold hold' : ℕ) (r : show.Row) (p : Period) → hold ≡ hold' → r ≡ show.row_of t p → made_of a hold a.sheet.filled r ≡ bill_row t (state_of a) hold' p
-entered_is t a hold hold' r p h e = ap₂ (λ k x. made_of a k a.sheet.filled x) h e ∙ ap (λ n. made_of a hold' n (show.row_of t p)) (sym (rows_length a))
+pub entered_is : {T : Type 0} (t : Tariff) (a : Account T) (hold hold' : ℕ) (r : show.Row) (p : Period) → hold ≡ hold' → r ≡ show.row_of t p → billed_more a hold a.sheet.filled r ≡ bill_row t (state_of a) hold' p
+entered_is t a hold hold' r p h e = ap₂ (λ k x. billed_more a k a.sheet.filled x) h e ∙ ap (λ n. billed_more a hold' n (show.row_of t p)) (sym (rows_length a))
 
 abbrev pub rowed : (first last : ℕ) → Registers → ℕ → show.Row
 rowed first last r cents = record { period = metered first last r; cents = cents }

@@ -1,11 +1,12 @@
 -- What a call answers: each refusal by its number, and an accepted call's value. Assumes nothing.
 use Rattle.std.specs.Prelude.{◌≡◌, ℕ, Bool, true, false, ℤ, pos, Ok, Err, Result}
+use Rattle.rules.specs.Questions.{AskedBy}
 use Rattle.rules.specs.Shown.{Answer}
 use Rattle.figures.specs.View.{Charge}
 use Rattle.figures.specs.declared.money.Money.{Money}
 use Rattle.figures.specs.declared.money.Payment.{Payment}
-use Rattle.account.specs.declared.answer.Refusal.{Refusal}
-use Rattle.account.specs.declared.answer.Refusal.TheVariants.{NoHold, Figures, SheetFull, Period, NotBilled, WrongSort, WrongSpan, NoFit, ShareTooLarge, JournalFull, Held, NoNumber}
+use Rattle.account.specs.declared.refusal.Refusal.{Refusal}
+use Rattle.account.specs.declared.refusal.Refusal.TheVariants.{NoHold, Figures, SheetFull, Period, NotBilled, WrongSort, WrongSpan, NoFit, ShareTooLarge, JournalFull, Held, NoNumber}
 
 -- each refusal by its number
 abbrev pub number_of : Refusal → ℕ
@@ -49,7 +50,6 @@ abbrev pub Says : {X : Type 0} → Bool → (X → Type 0) → Refusal → Resul
 Says answer made refusal (Ok x) = (answer ≡ true) × made x
 Says answer made refusal (Err e) = (answer ≡ false) × (e ≡ refusal)
 
--- a call's questions: where q is the number of the first no, or 0, either all said yes and something is made, or that refusal is given
+-- a call's questions
 abbrev pub Asked : {X : Type 0} → ℕ → (X → Type 0) → Result X Refusal → Type 0
-Asked q made (Ok x) = (q ≡ 0) × made x
-Asked q made (Err e) = q ≡ number_of e
+Asked = AskedBy number_of

@@ -4,12 +4,12 @@ ghost use Rattle.std.specs.Prelude.{◌≡◌, ℕ, ◌+◌, ◌<◌, ◌≤◌,
 ghost use Rattle.rules.specs.Laid.{next_day};
 ghost use Rattle.rules.specs.Questions.{stands, is_term, sheet_room, journal_room};
 ghost use Rattle.rules.specs.Machine.{view, periods_of};
-ghost use Rattle.account.specs.declared.answer.Refusal.TheVariants.{NoHold, SheetFull, Period, JournalFull};
+ghost use Rattle.account.specs.declared.refusal.Refusal.TheVariants.{NoHold, SheetFull, Period, JournalFull};
 ghost use Rattle.account.specs.State.{state_of, opening_of};
 ghost use Rattle.account.specs.Answers.{Says};
 
 use crate::account::Account;
-use crate::answer::Refusal;
+use crate::refusal::Refusal;
 use figures::dates::{Day, Term};
 
 impl<'a, T> Account<'a, T> {

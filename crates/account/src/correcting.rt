@@ -11,7 +11,7 @@ ghost use Rattle.account.specs.State.{state_of, opening_of, Stepped, LawfulAfter
 ghost use Rattle.account.specs.Answers.{Asked, corrected_answer};
 
 use crate::account::Account;
-use crate::answer::Refusal;
+use crate::refusal::Refusal;
 use figures::dates::Day;
 use figures::money::Money;
 use method::finding::{Cause, Finding, Use};
@@ -46,7 +46,7 @@ fn ask_rows<M: Method>(m: &M, found: &Found) -> Result<usize, Refusal>
     if !found.sorts_right() {
         return Err(Refusal::WrongSort);
     }
-    if !found.rule_kept() {
+    if !found.span_right() {
         return Err(Refusal::WrongSpan);
     }
     if !may_serve(m, Use::Correcting(cause), span) {

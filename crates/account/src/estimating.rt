@@ -4,14 +4,14 @@ ghost use Rattle.rules.specs.Subject.{estimate};
 ghost use Rattle.rules.specs.Laid.{next_day, run};
 ghost use Rattle.rules.specs.Questions.{question, first_no, shares_fit};
 ghost use Rattle.rules.specs.Machine.{view, periods_of};
-ghost use Rattle.sheet.specs.Rows.{unread_by};
+ghost use Rattle.sheet.specs.Rows.{unmetered_by};
 ghost use Rattle.account.specs.Estimates.{share_asked};
 ghost use Rattle.account.specs.State.{state_of, opening_of, Stepped, LawfulAfter};
 ghost use Rattle.account.specs.Work.{Roomy};
 ghost use Rattle.account.specs.Answers.{Asked, billed_answer};
 
 use crate::account::Account;
-use crate::answer::Refusal;
+use crate::refusal::Refusal;
 use figures::dates::{Day, Term};
 use figures::money::Charge;
 use figures::row::Sort;
@@ -30,7 +30,7 @@ struct Estimating {
 
 /// The questions about the method: none where the row is late in its run, a yes or no that `is_late` gives.
 fn ask_share<M: Method>(m: &M, late: bool, place: u64, term: Term) -> Result<(), Refusal>
-    ensures { Asked (first_no (share_asked late (M.Method.meaning m.now) place term.first.figure term.last.figure)) (λ _. (late ≡ false → shares_fit (unread_by late term.first.figure term.last.figure (M.Method.meaning m.now)) ≡ true)) result }
+    ensures { Asked (first_no (share_asked late (M.Method.meaning m.now) place term.first.figure term.last.figure)) (λ _. (late ≡ false → shares_fit (unmetered_by late term.first.figure term.last.figure (M.Method.meaning m.now)) ≡ true)) result }
 {
     if late {
         return Ok(());
@@ -61,7 +61,7 @@ impl<'a, T: Tariff> Account<'a, T> {
 
     /// The questions of an estimate.
     fn ask_estimate<M: Method>(&self, hold: u64, last: u64, m: &M) -> Result<Estimating, Refusal>
-        ensures { Asked (question (opening_of self.now) (view (state_of self.now)) (estimate hold last (M.Method.meaning m.now))) (λ e. (e.hold ≡ hold) × (e.term.first.figure ≡ next_day self.now.opening.figure (periods_of (state_of self.now))) × (e.term.last.figure ≡ last) × (e.late ≡ nat_le 6 (run (periods_of (state_of self.now)))) × (e.late ≡ false → shares_fit (unread_by e.late e.term.first.figure e.term.last.figure (M.Method.meaning m.now)) ≡ true) × Roomy self.now) result }
+        ensures { Asked (question (opening_of self.now) (view (state_of self.now)) (estimate hold last (M.Method.meaning m.now))) (λ e. (e.hold ≡ hold) × (e.term.first.figure ≡ next_day self.now.opening.figure (periods_of (state_of self.now))) × (e.term.last.figure ≡ last) × (e.late ≡ nat_le 6 (run (periods_of (state_of self.now)))) × (e.late ≡ false → shares_fit (unmetered_by e.late e.term.first.figure e.term.last.figure (M.Method.meaning m.now)) ≡ true) × Roomy self.now) result }
     {
         let hold = self.held(hold)?;
         let last = Day::new(last)?;
@@ -79,7 +79,7 @@ impl<'a, T: Tariff> Account<'a, T> {
         ensures law { LawfulAfter T.Tariff.meaning self.old self.new (estimate hold last (M.Method.meaning m.now)) (billed_answer result) }
     {
         let Estimating { hold, term, late } = self.ask_estimate(hold, last, m)?;
-        let row = estimating::unread(&mut self.tariff, m, late, term);
+        let row = estimating::without_reading(&mut self.tariff, m, late, term);
         self.enter(hold, row);
         Ok(row.charge)
     }

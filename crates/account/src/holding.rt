@@ -3,12 +3,12 @@ ghost use Rattle.std.specs.Prelude.{◌≡◌, ℕ, ◌+◌, ◌<◌, ◌≤◌}
 ghost use Rattle.rules.specs.Subject.{take as taking, hand_back};
 ghost use Rattle.rules.specs.Questions.{question, is_free};
 ghost use Rattle.rules.specs.Machine.{view};
-ghost use Rattle.account.specs.declared.answer.Refusal.TheVariants.{Held};
+ghost use Rattle.account.specs.declared.refusal.Refusal.TheVariants.{Held};
 ghost use Rattle.account.specs.State.{state_of, opening_of, Stepped, LawfulAfter};
 ghost use Rattle.account.specs.Answers.{Says, Asked, taken_answer, handed_answer};
 
 use crate::account::{Account, Hold};
-use crate::answer::Refusal;
+use crate::refusal::Refusal;
 use tariff::tariff::Tariff;
 
 impl<'a, T: Tariff> Account<'a, T> {

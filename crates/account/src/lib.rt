@@ -2,7 +2,7 @@
 #![tactic(auto)]
 
 pub mod account;
-pub mod answer;
+pub mod refusal;
 pub mod asking;
 pub mod billing;
 pub mod correcting;

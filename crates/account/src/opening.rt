@@ -7,7 +7,7 @@ ghost use Rattle.account.specs.State.{hold_of, state_of, Opened};
 ghost use Rattle.account.specs.Answers.{opened_answer, Asked};
 
 use crate::account::{Account, Hold};
-use crate::answer::Refusal;
+use crate::refusal::Refusal;
 use book::kept::Book;
 use figures::dates::Day;
 use figures::line::Line;

@@ -7,7 +7,7 @@ ghost use Rattle.account.specs.State.{state_of, opening_of, Stepped, LawfulAfter
 ghost use Rattle.account.specs.Answers.{Asked, paid_answer};
 
 use crate::account::Account;
-use crate::answer::Refusal;
+use crate::refusal::Refusal;
 use figures::line::{Letter, Line};
 use figures::money::Payment;
 use figures::reported::Cents;

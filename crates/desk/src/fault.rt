@@ -3,7 +3,7 @@ ghost use Rattle.std.specs.Prelude.{◌≡◌};
 ghost use Rattle.desk.specs.declared.fault.Fault.TheVariants.{Reader, Method, Account};
 ghost use Rattle.desk.specs.Faults.{layer_of, fault_number, fault_value};
 
-use account::answer::Refusal;
+use account::refusal::Refusal;
 use events::fault::ReaderFault;
 use method::fault::MethodFault;
 

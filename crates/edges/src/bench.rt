@@ -1,6 +1,6 @@
 // What the tests share: memory to lend, a tariff, and answers as numbers.
 use account::account::Account;
-use account::answer::Refusal;
+use account::refusal::Refusal;
 use figures::line::{EMPTY, Line};
 use figures::money::{Charge, Money};
 use figures::reported::{Cents, Kva, Kwh, Reading};

@@ -2,7 +2,7 @@
 // only the parts of an estimate and of a correction are read by calls, since the whole would grow too large to be inlined.
 ghost use Rattle.std.specs.Prelude.{◌≡◌, ◌≤◌, length, IfOk};
 ghost use Rattle.events.specs.declared.event.Event.TheVariants.{Take, HandBack, Bill, Estimate, Correct, Pay};
-ghost use Rattle.events.specs.Lines.{fields as fields_of, placed};
+ghost use Rattle.events.specs.Lines.{fields as fields_in, placed};
 ghost use Rattle.events.specs.Events.{t_line, h_line, b_line, e_line, c_line, p_line, event, event_in, event_from, event_of};
 ghost use Rattle.events.specs.RoundTrip.{IsLineOf};
 ghost use Rattle.events.specs.FieldsLeft.{fields_left, made, Handed};
@@ -27,7 +27,7 @@ fn take_parts(fields: &mut Fields<'_>) -> Result<(u64, u64), ReaderFault>
 #[inline(always)]
 fn read_take(rest: &[u8]) -> Result<Event, ReaderFault>
     requires { length rest.now ≤ 140 }
-    ensures value { result ≡ event_in t_line (placed 3 (fields_of rest.now)) }
+    ensures value { result ≡ event_in t_line (placed 3 (fields_in rest.now)) }
 {
     let mut fields = Fields::new(rest);
     let read = take_parts(&mut fields);
@@ -47,7 +47,7 @@ fn hand_back_parts(fields: &mut Fields<'_>) -> Result<u64, ReaderFault>
 #[inline(always)]
 fn read_hand_back(rest: &[u8]) -> Result<Event, ReaderFault>
     requires { length rest.now ≤ 140 }
-    ensures value { result ≡ event_in h_line (placed 3 (fields_of rest.now)) }
+    ensures value { result ≡ event_in h_line (placed 3 (fields_in rest.now)) }
 {
     let mut fields = Fields::new(rest);
     let read = hand_back_parts(&mut fields);
@@ -73,7 +73,7 @@ fn bill_parts(fields: &mut Fields<'_>) -> Result<(u64, u64, Reading), ReaderFaul
 #[inline(always)]
 fn read_bill(rest: &[u8]) -> Result<Event, ReaderFault>
     requires { length rest.now ≤ 140 }
-    ensures value { result ≡ event_in b_line (placed 3 (fields_of rest.now)) }
+    ensures value { result ≡ event_in b_line (placed 3 (fields_in rest.now)) }
 {
     let mut fields = Fields::new(rest);
     let read = bill_parts(&mut fields);
@@ -102,7 +102,7 @@ fn estimate_parts(fields: &mut Fields<'_>) -> Result<(u64, u64, Kwh, u64, Kva), 
 #[inline(always)]
 fn read_estimate(rest: &[u8]) -> Result<Event, ReaderFault>
     requires { length rest.now ≤ 140 }
-    ensures value { result ≡ event_in e_line (placed 3 (fields_of rest.now)) }
+    ensures value { result ≡ event_in e_line (placed 3 (fields_in rest.now)) }
 {
     let mut fields = Fields::new(rest);
     let read = estimate_parts(&mut fields);
@@ -119,7 +119,7 @@ fn read_estimate(rest: &[u8]) -> Result<Event, ReaderFault>
 #[inline(always)]
 fn read_correct(rest: &[u8]) -> Result<Event, ReaderFault>
     requires { length rest.now ≤ 140 }
-    ensures value { result ≡ event_in c_line (placed 3 (fields_of rest.now)) }
+    ensures value { result ≡ event_in c_line (placed 3 (fields_in rest.now)) }
 {
     let (hold, finding, basis) = correct_parts(Fields::new(rest))?;
     Ok(Event::Correct {
@@ -143,7 +143,7 @@ fn pay_parts(fields: &mut Fields<'_>) -> Result<(u64, Cents), ReaderFault>
 #[inline(always)]
 fn read_pay(rest: &[u8]) -> Result<Event, ReaderFault>
     requires { length rest.now ≤ 140 }
-    ensures value { result ≡ event_in p_line (placed 3 (fields_of rest.now)) }
+    ensures value { result ≡ event_in p_line (placed 3 (fields_in rest.now)) }
 {
     let mut fields = Fields::new(rest);
     let read = pay_parts(&mut fields);
@@ -155,7 +155,7 @@ fn read_pay(rest: &[u8]) -> Result<Event, ReaderFault>
 #[inline(always)]
 fn read_form(line: &[u8]) -> Result<Event, ReaderFault>
     requires { length line.now ≤ 140 }
-    ensures { result ≡ event_from (fields_of line.now) }
+    ensures { result ≡ event_from (fields_in line.now) }
 {
     match line {
         [b'T', b',', rest @ ..] => read_take(rest),

@@ -25,7 +25,7 @@ impl Unwritten {
 impl From<Full> for Unwritten {
     ghost from_gives = { λ e unwritten. unwritten ≡ Page };
 
-    fn from(_e: Full) -> Unwritten {
+    fn from(_: Full) -> Unwritten {
         Unwritten::Page
     }
 }

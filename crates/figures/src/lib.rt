@@ -2,7 +2,7 @@
 #![tactic(auto)]
 
 pub mod dates;
-pub mod limits;
+pub mod readings;
 pub mod line;
 pub mod money;
 pub mod reported;

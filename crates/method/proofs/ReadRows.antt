@@ -2,7 +2,7 @@
 use Rattle.std.proofs.Common.{◌≡◌, ℕ, zero, suc, ◌+◌, true, ◌&&◌, eqb, ltb, List, [], ◌∷◌, ◌++◌, length, take, drop, refl, ap, ap₂}
 use Rattle.std.proofs.lemmas.Bool.{cond_both, and_parts, and_from}
 use Rattle.rules.specs.Subject.{Registers, estimated, no_energy, Period, is_read, Finding, Method, day_weight, peak_weight, Call, take as taken, hand_back, bill, estimate, correct, pay, Opening}
-use Rattle.rules.specs.Laid.{next_day, run, laid, with_standing, blank, metered, unread, rewrites, corrected}
+use Rattle.rules.specs.Laid.{next_day, run, laid, with_standing, blank, metered, without_reading, rewrites, corrected}
 use Rattle.rules.specs.Questions.{is_day, is_reading, is_term, every, asked}
 use Rattle.rules.specs.Given.{give, given, accepted}
 use Rattle.rules.specs.Owed.{billed}
@@ -19,9 +19,9 @@ BySort p = is_read_row p ≡ is_read p.sort
 by_sort_metered : (first last : ℕ) (r : Registers) → is_reading r ≡ true → is_term first last ≡ true → BySort (metered first last r)
 by_sort_metered first last r reading term = and_from (true && is_reading r) (is_term first last) reading term
 
-by_sort_unread : (first last : ℕ) (m : Method) (ps : List Period) → BySort (unread first last m ps)
-unfolding unread
-by_sort_unread first last m ps =
+by_sort_unmetered : (first last : ℕ) (m : Method) (ps : List Period) → BySort (without_reading first last m ps)
+unfolding without_reading
+by_sort_unmetered first last m ps =
     let p = blank first last estimated in
     cond_both (ltb (run ps) 6) (with_standing (laid m 0 0 p) p) (blank first last no_energy) BySort (λ e. refl) (λ e. refl)
 
@@ -50,7 +50,7 @@ each_billed o (bill hold last r ∷ before) h =
     each_push (billed o before) _ (each_billed o before h.1)
     (by_sort_metered (next_day o.day (billed o before)) last r (and_parts (is_day last) (is_reading r) yes.1.0).1 yes.1.1.1.0)
 each_billed o (estimate hold last m ∷ before) h =
-    each_push (billed o before) _ (each_billed o before h.1) (by_sort_unread (next_day o.day (billed o before)) last m (billed o before))
+    each_push (billed o before) _ (each_billed o before h.1) (by_sort_unmetered (next_day o.day (billed o before)) last m (billed o before))
 each_billed o (correct hold f m ∷ before) h = each_corrected f m 0 0 0 (billed o before) (each_billed o before h.1)
 each_billed o (pay hold cents ∷ before) h = each_billed o before h.1
 

@@ -1,6 +1,6 @@
 // The method by test meter: how it is made, and what it means.
-ghost use Rattle.std.specs.Prelude.{◌≡◌, Ok, Err};
-ghost use Rattle.rules.specs.Questions.{first_no};
+ghost use Rattle.std.specs.Prelude.{◌≡◌};
+ghost use Rattle.rules.specs.Questions.{first_no, AskedBy};
 ghost use Rattle.method.specs.Making.{number_of, test_asked};
 ghost use Rattle.method.specs.Made.{made_as, test_made};
 ghost use Rattle.method.specs.Meant.{test_of};
@@ -19,7 +19,7 @@ use figures::units::{Demand, Register, Units};
 impl TestMeter {
     /// The meter has to be more than 2.5 per cent off, or there is nothing to correct.
     pub fn new(shown: Kwh, tested: Kwh) -> Result<TestMeter, MethodFault>
-        ensures asked { elim result [ Ok m ↦ (first_no (test_asked shown.0 tested.0) ≡ 0) × (m.shown.figure.0 ≡ shown.0) × (m.tested.figure.0 ≡ tested.0) | Err e ↦ first_no (test_asked shown.0 tested.0) ≡ number_of e ] }
+        ensures asked { AskedBy number_of (first_no (test_asked shown.0 tested.0)) (λ m. (m.shown.figure.0 ≡ shown.0) × (m.tested.figure.0 ≡ tested.0)) result }
         ensures made { made_as test_of result ≡ test_made shown.0 tested.0 }
     {
         let shown = Units::new(shown)?;

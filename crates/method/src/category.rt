@@ -1,6 +1,6 @@
 // The method by category: what tenants of a kind use in 30 days, for estimates.
-ghost use Rattle.std.specs.Prelude.{◌≡◌, Ok, Err};
-ghost use Rattle.rules.specs.Questions.{first_no};
+ghost use Rattle.std.specs.Prelude.{◌≡◌};
+ghost use Rattle.rules.specs.Questions.{first_no, AskedBy};
 ghost use Rattle.method.specs.Making.{number_of, category_asked};
 ghost use Rattle.method.specs.Made.{made_as, category_made};
 ghost use Rattle.method.specs.Uses.{named_by, named_back};
@@ -26,7 +26,7 @@ pub struct Category {
 
 impl Category {
     pub fn new(figure: Kwh, peak: u64, demand: Kva) -> Result<Category, MethodFault>
-        ensures asked { elim result [ Ok m ↦ (first_no (category_asked figure.0 peak demand.0) ≡ 0) × (m.figure.figure.0 ≡ figure.0) × (m.peak.figure ≡ peak) × (m.demand.figure.0 ≡ demand.0) | Err e ↦ first_no (category_asked figure.0 peak demand.0) ≡ number_of e ] }
+        ensures asked { AskedBy number_of (first_no (category_asked figure.0 peak demand.0)) (λ m. (m.figure.figure.0 ≡ figure.0) × (m.peak.figure ≡ peak) × (m.demand.figure.0 ≡ demand.0)) result }
         ensures made { made_as category_of result ≡ category_made figure.0 peak demand.0 }
     {
         let figure = Units::new(figure)?;

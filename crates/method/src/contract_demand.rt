@@ -1,6 +1,6 @@
 // The method by contract demand: what a tenant could use of it, for a meter that was altered.
-ghost use Rattle.std.specs.Prelude.{◌≡◌, ◌≤◌, Ok, Err};
-ghost use Rattle.rules.specs.Questions.{first_no};
+ghost use Rattle.std.specs.Prelude.{◌≡◌, ◌≤◌};
+ghost use Rattle.rules.specs.Questions.{first_no, AskedBy};
 ghost use Rattle.method.specs.Making.{number_of, contract_asked};
 ghost use Rattle.method.specs.Made.{made_as, contract_made};
 ghost use Rattle.method.specs.Uses.{named_by, named_back};
@@ -34,7 +34,7 @@ impl ContractDemand {
         load: u64,
         peak: u64,
     ) -> Result<ContractDemand, MethodFault>
-        ensures asked { elim result [ Ok m ↦ (first_no (contract_asked kva.0 utilization power load peak) ≡ 0) × (m.contract.figure.0 ≡ kva.0) × (m.utilization.figure ≡ utilization) × (m.power.figure ≡ power) × (m.load.figure ≡ load) × (m.peak.figure ≡ peak) | Err e ↦ first_no (contract_asked kva.0 utilization power load peak) ≡ number_of e ] }
+        ensures asked { AskedBy number_of (first_no (contract_asked kva.0 utilization power load peak)) (λ m. (m.contract.figure.0 ≡ kva.0) × (m.utilization.figure ≡ utilization) × (m.power.figure ≡ power) × (m.load.figure ≡ load) × (m.peak.figure ≡ peak)) result }
         ensures made { made_as contract_of result ≡ contract_made kva.0 utilization power load peak }
     {
         let contract = Contract::new(kva)?;

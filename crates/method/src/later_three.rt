@@ -1,6 +1,6 @@
 // The method by the later three: a span is reckoned as the three rows just after it.
-ghost use Rattle.std.specs.Prelude.{◌≡◌, map, Ok, Err};
-ghost use Rattle.rules.specs.Questions.{first_no};
+ghost use Rattle.std.specs.Prelude.{◌≡◌, map};
+ghost use Rattle.rules.specs.Questions.{first_no, AskedBy};
 ghost use Rattle.figures.specs.View.{period_seen};
 ghost use Rattle.method.specs.Making.{number_of, later_asked};
 ghost use Rattle.method.specs.Made.{made_as, later_made};
@@ -28,7 +28,7 @@ pub struct LaterThree {
 impl LaterThree {
     /// Rows `from` to `from` + 2.
     pub fn new(rows: &[Row], from: u64) -> Result<LaterThree, MethodFault>
-        ensures asked { elim result [ Ok m ↦ (first_no (later_asked from (map period_seen rows.now)) ≡ 0) × (m.three.from ≡ from) × Reckoned m.three (three_from from (map period_seen rows.now)) | Err e ↦ first_no (later_asked from (map period_seen rows.now)) ≡ number_of e ] }
+        ensures asked { AskedBy number_of (first_no (later_asked from (map period_seen rows.now))) (λ m. (m.three.from ≡ from) × Reckoned m.three (three_from from (map period_seen rows.now))) result }
         ensures made { made_as later_of result ≡ later_made from (map period_seen rows.now) }
     {
         let three = ThreeRows::new(rows, from).ok_or(MethodFault::NotRead)?;

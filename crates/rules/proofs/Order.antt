@@ -2,7 +2,7 @@
 use Rattle.std.proofs.Common.{◌≡◌, ℕ, suc, ◌+◌, true, List, [], ◌∷◌, ◌++◌, ltb, refl}
 use Rattle.std.proofs.lemmas.Bool.{cond_both}
 use Rattle.rules.specs.Subject.{Period, Finding, Method, day_weight, peak_weight, estimated, no_energy, Call, take, hand_back, bill, estimate, correct, pay, Opening}
-use Rattle.rules.specs.Laid.{next_day, run, laid, with_standing, metered, blank, unread, rewrites, corrected}
+use Rattle.rules.specs.Laid.{next_day, run, laid, with_standing, metered, blank, without_reading, rewrites, corrected}
 use Rattle.rules.specs.Questions.{is_term, asked}
 use Rattle.rules.specs.Given.{give, given}
 use Rattle.rules.specs.Owed.{billed}
@@ -14,9 +14,9 @@ order_push : (day : ℕ) (ps : List Period) (p : Period) → InOrder day ps → 
 order_push day [] p h e t = (e, t, tt)
 order_push day (q ∷ ps) p h e t = (h.0, h.1, order_push (q.last + 1) ps p h.2 e t)
 
-order_unread : (o : Opening) (last : ℕ) (m : Method) (ps : List Period) → InOrder o.day ps → is_term (next_day o.day ps) last ≡ true → InOrder o.day (ps ++ (unread (next_day o.day ps) last m ps ∷ []))
-unfolding unread
-order_unread o last m ps h t =
+order_unmetered : (o : Opening) (last : ℕ) (m : Method) (ps : List Period) → InOrder o.day ps → is_term (next_day o.day ps) last ≡ true → InOrder o.day (ps ++ (without_reading (next_day o.day ps) last m ps ∷ []))
+unfolding without_reading
+order_unmetered o last m ps h t =
     let p = blank (next_day o.day ps) last estimated in
     let q = blank (next_day o.day ps) last no_energy in
     cond_both (ltb (run ps) 6) (with_standing (laid m 0 0 p) p) q (λ (x : Period). InOrder o.day (ps ++ (x ∷ [])))
@@ -41,6 +41,6 @@ in_order o (bill hold last r ∷ before) h =
     let ps = billed o before in
     order_push o.day ps (metered (next_day o.day ps) last r) (in_order o before h.1) refl (answers o (bill hold last r) before h.0).1.1.1.0
 in_order o (estimate hold last m ∷ before) h =
-    order_unread o last m (billed o before) (in_order o before h.1) (answers o (estimate hold last m) before h.0).1.1.1.0
+    order_unmetered o last m (billed o before) (in_order o before h.1) (answers o (estimate hold last m) before h.0).1.1.1.0
 in_order o (correct hold f m ∷ before) h = order_corrected f m 0 0 0 o.day (billed o before) (in_order o before h.1)
 in_order o (pay hold cents ∷ before) h = in_order o before h.1

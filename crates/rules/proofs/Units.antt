@@ -3,7 +3,7 @@ use Rattle.std.proofs.Common.{◌≡◌, ℕ, suc, ◌+◌, ◌≤◌, Bool, tru
 use Rattle.std.proofs.lemmas.Bool.{cond_both, cond-true, cond-false, ltb-true, and_parts, false≢true}
 use Rattle.rules.specs.Subject.{zeros, day_units, peak_units, no_energy, estimated, Period, is_estimated, unmetered, Tariff, Cause, absent, under, over, stopped, altered, Finding, Method, day_weight, peak_weight, Call, take, hand_back, bill, estimate, correct, pay, Opening}
 use Rattle.rules.specs.Sharing.{sum_of, whole, share}
-use Rattle.rules.specs.Laid.{next_day, run_on, run_past, run, laid, with_standing, blank, unread, in_span, rewrites_sort, rewrites, rewritten, corrected}
+use Rattle.rules.specs.Laid.{next_day, run_on, run_past, run, laid, with_standing, blank, without_reading, in_span, rewrites_sort, rewrites, rewritten, corrected}
 use Rattle.rules.specs.Questions.{of_sort, every, asked}
 use Rattle.rules.specs.Given.{give, given}
 use Rattle.rules.specs.Owed.{billed}
@@ -70,9 +70,9 @@ module _ (f : Finding) (m : Method) where
       subst (Each (Close m)) (sym (cond-true b (q ∷ rest) rest e)) (c, close (suc row) V' W' ps))
       (λ e. subst (Each (Close m)) (sym (cond-false b _ _ e)) (close (suc row) V W ps))
 
-close_unread : (first last : ℕ) (m : Method) (ps : List Period) → is_estimated (unread first last m ps).sort ≡ true → Close m (unread first last m ps)
-unfolding unread
-close_unread first last m ps =
+close_unmetered : (first last : ℕ) (m : Method) (ps : List Period) → is_estimated (without_reading first last m ps).sort ≡ true → Close m (without_reading first last m ps)
+unfolding without_reading
+close_unmetered first last m ps =
     let p = blank first last estimated in
     cond_both (ltb (run ps) 6) (with_standing (laid m 0 0 p) p) (blank first last no_energy) (λ q. is_estimated q.sort ≡ true → Close m q)
     (λ e h. record {
@@ -97,7 +97,7 @@ all_close o [] = tt
 all_close o (take now length ∷ before) = (tt, all_close o before)
 all_close o (hand_back hold ∷ before) = (tt, all_close o before)
 all_close o (bill hold last r ∷ before) = (tt, all_close o before)
-all_close o (estimate hold last m ∷ before) = (close_unread (next_day o.day (billed o before)) last m (billed o before), all_close o before)
+all_close o (estimate hold last m ∷ before) = (close_unmetered (next_day o.day (billed o before)) last m (billed o before), all_close o before)
 all_close o (correct hold f m ∷ before) = (close f m 0 0 0 (billed o before), all_close o before)
 all_close o (pay hold cents ∷ before) = (tt, all_close o before)
 
@@ -113,9 +113,9 @@ sealed_push : (n : ℕ) (ps : List Period) (q : Period) → Sealed n ps → (unm
 sealed_push n [] q s h = (h, tt)
 sealed_push n (p ∷ ps) q s h = (s.0, sealed_push (run_on n p) ps q s.1 h)
 
-sealed_unread : (first last : ℕ) (m : Method) (ps : List Period) → unmetered (unread first last m ps) ≡ true → 6 ≤ run ps → Blank (unread first last m ps)
-unfolding unread
-sealed_unread first last m ps =
+sealed_unmetered : (first last : ℕ) (m : Method) (ps : List Period) → unmetered (without_reading first last m ps) ≡ true → 6 ≤ run ps → Blank (without_reading first last m ps)
+unfolding without_reading
+sealed_unmetered first last m ps =
     let p = blank first last estimated in
     cond_both (ltb (run ps) 6) (with_standing (laid m 0 0 p) p) (blank first last no_energy) (λ q. unmetered q ≡ true → 6 ≤ run ps → Blank q)
     (λ e u h. absurd (omega (arith, ltb-true (run ps) 6 e)))
@@ -157,7 +157,7 @@ all_sealed o (take now length ∷ before) h = all_sealed o before h.1
 all_sealed o (hand_back hold ∷ before) h = all_sealed o before h.1
 all_sealed o (bill hold last r ∷ before) h = sealed_push 0 (billed o before) _ (all_sealed o before h.1) (λ u k. absurd (false≢true u))
 all_sealed o (estimate hold last m ∷ before) h =
-    sealed_push 0 (billed o before) _ (all_sealed o before h.1) (sealed_unread (next_day o.day (billed o before)) last m (billed o before))
+    sealed_push 0 (billed o before) _ (all_sealed o before h.1) (sealed_unmetered (next_day o.day (billed o before)) last m (billed o before))
 all_sealed o (correct hold f m ∷ before) h =
     let six = (answers o (correct hold f m) before h.0).1.1.1.0 in
     sealed_corrected f m 0 0 0 0 (billed o before) (and_parts _ _ six).0 (all_sealed o before h.1)

@@ -2,7 +2,7 @@
 use Rattle.std.proofs.Common.{◌≡◌, ℕ, ◌+◌, cond, eqb, List, ℤ, pos, refl, ap, ◌∙◌, arith}
 use Rattle.std.proofs.lemmas.Int.{ints}
 use Rattle.rules.specs.Subject.{Period, Tariff, charge, Call, take, hand_back, bill, estimate, correct, pay, Opening}
-use Rattle.rules.specs.Laid.{next_day, metered, unread}
+use Rattle.rules.specs.Laid.{next_day, metered, without_reading}
 use Rattle.rules.specs.Questions.{Books, question}
 use Rattle.rules.specs.Given.{give, given, accepted}
 use Rattle.rules.specs.Shown.{Answer}
@@ -24,8 +24,8 @@ worth_ran t o (bill hold last r) calls =
     ∙ omega (arith, ints, charged_push t ps (metered (next_day o.day ps) last r))
 worth_ran t o (estimate hold last m) calls =
     let ps = billed o calls in
-    ap (λ (q : List Period). pos (charge t (unread (next_day o.day q) last m q))) (ap (λ (b : Books). b.periods) (view_ran t o calls))
-    ∙ omega (arith, ints, charged_push t ps (unread (next_day o.day ps) last m ps))
+    ap (λ (q : List Period). pos (charge t (without_reading (next_day o.day q) last m q))) (ap (λ (b : Books). b.periods) (view_ran t o calls))
+    ∙ omega (arith, ints, charged_push t ps (without_reading (next_day o.day ps) last m ps))
 worth_ran t o (correct hold f m) calls =
     let ps = billed o calls in
     ap (λ x. cents_of (posts t f m hold 0 0 0 x)) (rows_ran t o calls)

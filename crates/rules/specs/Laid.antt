@@ -40,8 +40,8 @@ abbrev pub blank : (first last : ℕ) → Sort → Period
 blank first last s = record { first = first; last = last; sort = s; recorded = zeros; standing = zeros }
 
 -- an unmetered period after the periods ps: the method's share for it alone, or zeros from the seventh of a run on
-unfoldable pub unread : (first last : ℕ) → Method → List Period → Period
-unread first last m ps =
+unfoldable pub without_reading : (first last : ℕ) → Method → List Period → Period
+without_reading first last m ps =
     cond (nat_lt (run ps) 6) (let p = blank first last estimated in with_standing (laid m 0 0 p) p) (blank first last no_energy)
 
 abbrev pub in_span : Finding → ℕ → Bool

@@ -1,7 +1,7 @@
 -- The questions before a call is accepted. Assumes nothing.
-use Rattle.std.specs.Prelude.{ℕ, zero, suc, ◌+◌, ◌-◌, min, Bool, true, false, cond, not, ◌&&◌, ◌||◌, List, [], ◌∷◌, length, Some, None, Option, ◌==◌, nat_eq, nat_le, nat_lt}
+use Rattle.std.specs.Prelude.{◌≡◌, ℕ, zero, suc, ◌+◌, ◌-◌, min, Bool, true, false, cond, not, ◌&&◌, ◌||◌, List, [], ◌∷◌, length, Some, None, Ok, Err, Option, Result, ◌==◌, nat_eq, nat_le, nat_lt}
 use Rattle.rules.specs.Subject.{Registers, longest, Sort, Period, is_read, is_unmetered, unmetered, Cause, absent, under, over, stopped, altered, Side, consumer, supplier, Finding, Method, estimates, correcting, Call, take, hand_back, bill, estimate, correct, pay, Opening}
-use Rattle.rules.specs.Laid.{next_day, run, unread, in_span, rewritten, corrected}
+use Rattle.rules.specs.Laid.{next_day, run, without_reading, in_span, rewritten, corrected}
 
 pub record Hold : Type 0 where
   pub number : ℕ
@@ -154,7 +154,7 @@ asked o b (estimate hold last m) =
     ∷ (3, nat_lt row (sheet_room o))
     ∷ (4, is_term (next_day o.day b.periods) last)
     ∷ (8, late || (m.serves estimates && m.fits estimates row row))
-    ∷ (9, late || shares_fit (unread (next_day o.day b.periods) last m b.periods))
+    ∷ (9, late || shares_fit (without_reading (next_day o.day b.periods) last m b.periods))
     ∷ (10, nat_le (b.used + 1) (journal_room o)) ∷ []
 asked o b (correct hold f m) =
     (1, stands b hold)
@@ -178,3 +178,8 @@ first_no (q ∷ qs) = cond q.1 (first_no qs) q.0
 -- 0 where the call is accepted, else the number of the question that refuses it
 abbrev pub question : Opening → Books → Call → ℕ
 question o b c = first_no (asked o b c)
+
+-- where q is the number of the first no, or 0: all said yes and something is made, or the refusal has that number
+abbrev pub AskedBy : {X E : Type 0} → (E → ℕ) → ℕ → (X → Type 0) → Result X E → Type 0
+AskedBy number q made (Ok x) = (q ≡ 0) × made x
+AskedBy number q made (Err e) = q ≡ number e

@@ -6,7 +6,7 @@ ghost use Rattle.run.specs.Runs.{call_of, Moved, Follows, KeepsLaw};
 
 use crate::ask::Ask;
 use account::account::Account;
-use account::answer::Refusal;
+use account::refusal::Refusal;
 use figures::line::Line;
 use figures::row::Row;
 use method::method::Method;

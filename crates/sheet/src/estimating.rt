@@ -5,7 +5,7 @@ ghost use Rattle.rules.specs.Laid.{laid, with_standing, run as run_of, blank as 
 ghost use Rattle.rules.specs.Questions.{shares_fit};
 ghost use Rattle.rules.specs.Shown.{row_of};
 ghost use Rattle.figures.specs.View.{seen, period_seen, sort_of};
-ghost use Rattle.sheet.specs.Rows.{periods, unread_by};
+ghost use Rattle.sheet.specs.Rows.{periods, unmetered_by};
 
 use crate::laying::alone;
 use crate::relaying::restate;
@@ -41,9 +41,9 @@ pub fn share_fits<M: Method>(m: &M, row: &Row) -> bool
 
 /// The unmetered row for a period, with its charge: the method's share for it alone, or zeros where it is late in its run.
 /// `late` is the answer to that one question, and no value goes with it.
-pub fn unread<T: Tariff, M: Method>(tariff: &mut T, m: &M, late: bool, term: Term) -> Row
-    requires { late ≡ false → shares_fit (unread_by late term.first.figure term.last.figure (M.Method.meaning m.now)) ≡ true }
-    ensures row { seen result ≡ row_of (T.Tariff.meaning tariff.old) (unread_by late term.first.figure term.last.figure (M.Method.meaning m.now)) }
+pub fn without_reading<T: Tariff, M: Method>(tariff: &mut T, m: &M, late: bool, term: Term) -> Row
+    requires { late ≡ false → shares_fit (unmetered_by late term.first.figure term.last.figure (M.Method.meaning m.now)) ≡ true }
+    ensures row { seen result ≡ row_of (T.Tariff.meaning tariff.old) (unmetered_by late term.first.figure term.last.figure (M.Method.meaning m.now)) }
     ensures same { T.Tariff.meaning tariff.new ≡ T.Tariff.meaning tariff.old }
 {
     if late {

@@ -33,17 +33,17 @@ impl<'a> Found<'a> {
         self.covered().iter().all(|row| of_sort(cause, row.sort))
     }
 
-    fn unread_before(&self) -> bool
+    fn unmetered_before(&self) -> bool
         ensures { result ≡ (nat_lt 0 self.now.finding.span.first && row_is unmetered (periods self.now.rows.now) (self.now.finding.span.first - 1)) }
     {
         let first = self.finding.span.first;
-        first > 0 && self.unread_at(first - 1)
+        first > 0 && self.unmetered_at(first - 1)
     }
 
     fn none_left_out(&self) -> bool
         ensures { result ≡ every (not_left_out (finding_of self.now.finding)) 0 (periods self.now.rows.now) }
     {
-        !self.unread_before() && !self.unread_at(self.after())
+        !self.unmetered_before() && !self.unmetered_at(self.after())
     }
 
     /// Whether the rows are of the cause's sort, and for an absent reading no unmetered row that adjoins is left out.
@@ -71,7 +71,7 @@ impl<'a> Found<'a> {
     }
 
     /// Whether the row is there and is not read.
-    fn unread_at(&self, row: u64) -> bool
+    fn unmetered_at(&self, row: u64) -> bool
         ensures { result ≡ row_is unmetered (periods self.now.rows.now) row }
     {
         self.rows
@@ -87,7 +87,7 @@ impl<'a> Found<'a> {
     }
 
     /// Whether the span keeps the rest of its cause's rule.
-    pub fn rule_kept(&self) -> bool
+    pub fn span_right(&self) -> bool
         ensures { result ≡ rule-kept (cause_of self.now.finding.cause) (side_of self.now.finding.side) (finding_of self.now.finding) (periods self.now.rows.now) }
     {
         let Finding {

@@ -41,17 +41,17 @@ impl fmt::Display for Refused {
 impl Error for Refused {}
 
 impl From<OutOfLimits> for Refused {
-    ghost from_gives = { λ e refused. refused ≡ Figures };
+    ghost from_gives = { λ _ r. r ≡ Figures };
 
-    fn from(_e: OutOfLimits) -> Refused {
+    fn from(_: OutOfLimits) -> Refused {
         Refused::Figures
     }
 }
 
 impl From<Full> for Refused {
-    ghost from_gives = { λ e refused. refused ≡ Page };
+    ghost from_gives = { λ _ r. r ≡ Page };
 
-    fn from(_e: Full) -> Refused {
+    fn from(_: Full) -> Refused {
         Refused::Page
     }
 }

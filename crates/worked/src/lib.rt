@@ -3,7 +3,7 @@
 
 ghost use Rattle.worked.specs.Worked.{WorkedFigures};
 
-// The definitions give every figure of the table.
+/// The definitions give every figure of the table.
 pub fn worked_figures_stand()
     ensures { WorkedFigures }
 {}

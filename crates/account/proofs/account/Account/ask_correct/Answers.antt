@@ -7,7 +7,7 @@ use Rattle.sheet.proofs.Listed.{rewritten_few}
 use Rattle.account.specs.Corrections.{rows_asked}
 use Rattle.account.specs.State.{state_of, opening_of}
 use Rattle.account.specs.Answers.{number_of}
-use Rattle.account.specs.declared.answer.Refusal.TheVariants.{Figures}
+use Rattle.account.specs.declared.refusal.Refusal.TheVariants.{Figures}
 use Rattle.account.proofs.Calls.{pass, stop, asked_err, number_least, more_asked, all_asked, rows_few}
 use Rattle.account.proofs.account.Account.ask_correct.Goals as goal
 

@@ -5,7 +5,7 @@ use Rattle.rules.specs.Machine.{periods_of}
 use Rattle.account.specs.Estimates.{share_asked}
 use Rattle.account.specs.State.{state_of, opening_of}
 use Rattle.account.specs.Answers.{number_of}
-use Rattle.account.specs.declared.answer.Refusal.TheVariants.{Figures}
+use Rattle.account.specs.declared.refusal.Refusal.TheVariants.{Figures}
 use Rattle.account.proofs.Calls.{pass, stop, asked_err, number_least, more_asked, all_asked}
 use Rattle.account.proofs.Estimates.{listed}
 use Rattle.account.proofs.account.Account.ask_estimate.Goals as goal

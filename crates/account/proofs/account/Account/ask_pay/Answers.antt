@@ -1,7 +1,7 @@
 use Rattle.std.proofs.Common.{sym, refl, ap, ◌∙◌}
 use Rattle.rules.specs.Questions.{asked}
 use Rattle.account.specs.Answers.{number_of}
-use Rattle.account.specs.declared.answer.Refusal.TheVariants.{Figures}
+use Rattle.account.specs.declared.refusal.Refusal.TheVariants.{Figures}
 use Rattle.account.proofs.Calls.{pass, stop, asked_err}
 use Rattle.account.proofs.account.Account.ask_pay.Goals as goal
 

@@ -1,14 +1,14 @@
 use Rattle.std.proofs.Common.{◌≡◌, leb, pos, sym, ap, ◌∙◌, ap₂}
 use Rattle.rules.specs.Subject.{estimate}
-use Rattle.rules.specs.Laid.{next_day, run, unread}
+use Rattle.rules.specs.Laid.{next_day, run, without_reading}
 use Rattle.rules.specs.Shown as show
 use Rattle.rules.specs.Machine.{effect, periods_of}
 use Rattle.figures.specs.View.{seen}
-use Rattle.sheet.specs.Rows.{unread_by}
+use Rattle.sheet.specs.Rows.{unmetered_by}
 use Rattle.account.specs.State.{state_of}
 use Rattle.account.proofs.Calls.{refused_by, changed_done}
 use Rattle.account.proofs.Rows.{entered_is}
-use Rattle.account.proofs.Estimates.{unread_is}
+use Rattle.account.proofs.Estimates.{unmetered_is}
 use Rattle.account.proofs.account.Account.estimate.Goals as goal
 
 pub returns-in_err-hold : goal.returns-in_err-hold
@@ -29,20 +29,20 @@ returns g c =
     let ps = periods_of (state_of a) in
     let first = next_day a.opening.figure ps in
     let e = c.enter.ensures in
-    let row : seen c.unread-row.result ≡ show.row_of t (unread first last m ps) =
-    c.unread-row.ensures.row
-    ∙ ap (λ x. show.row_of t (unread_by x b.term.first.figure b.term.last.figure m)) said.1.3
-    ∙ ap₂ (λ x y. show.row_of t (unread_by (leb 6 (run ps)) x y m)) said.1.1 said.1.2
-    ∙ ap (show.row_of t) (sym (unread_is first last m ps)) in
+    let row : seen c.without_reading-row.result ≡ show.row_of t (without_reading first last m ps) =
+    c.without_reading-row.ensures.row
+    ∙ ap (λ x. show.row_of t (unmetered_by x b.term.first.figure b.term.last.figure m)) said.1.3
+    ∙ ap₂ (λ x y. show.row_of t (unmetered_by (leb 6 (run ps)) x y m)) said.1.1 said.1.2
+    ∙ ap (show.row_of t) (sym (unmetered_is first last m ps)) in
     let r = changed_done mean a c.enter.new.self _ _ _ (record {
       granted = e.granted;
       holding = e.holding;
       day = e.day;
-      tariff = e.tariff ∙ c.unread-row.ensures.same;
+      tariff = e.tariff ∙ c.without_reading-row.ensures.same;
       rows = e.rows;
       sheet_size = e.sheet_size;
       sheet_past = e.sheet_past;
       journal = e.journal;
       sums = e.sums;
-    }) (estimate c.args.hold last m) (pos c.unread-row.result.charge.figure.0) said.0 (ap (λ (x : show.Row). pos x.cents) row) (entered_is t a b.hold c.args.hold _ (unread first last m ps) said.1.0 row) in
+    }) (estimate c.args.hold last m) (pos c.without_reading-row.result.charge.figure.0) said.0 (ap (λ (x : show.Row). pos x.cents) row) (entered_is t a b.hold c.args.hold _ (without_reading first last m ps) said.1.0 row) in
     record { after = r.0; law = r.1 }

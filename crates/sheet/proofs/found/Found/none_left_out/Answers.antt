@@ -6,18 +6,18 @@ use Rattle.sheet.specs.Rows.{periods}
 use Rattle.sheet.proofs.Tested.{left_out_tested}
 use Rattle.sheet.proofs.found.Found.none_left_out.Goals as goal
 
-pub returns-then-not-unread_before : goal.returns-then-not-unread_before
-returns-then-not-unread_before c =
+pub returns-then-not-unmetered_before : goal.returns-then-not-unmetered_before
+returns-then-not-unmetered_before c =
     let f = finding_of c.args.self.now.finding in
     let ps = periods c.args.self.now.rows.now in
-    ap not (c.unread_at.ensures ∙ c.after.ensures unmetered)
-    ∙ ap (λ b. not b && not (row_is unmetered ps (f.last + 1))) (sym c.if-not-unread_before.true ∙ c.unread_before.ensures)
+    ap not (c.unmetered_at.ensures ∙ c.after.ensures unmetered)
+    ∙ ap (λ b. not b && not (row_is unmetered ps (f.last + 1))) (sym c.if-not-unmetered_before.true ∙ c.unmetered_before.ensures)
     ∙ sym (left_out_tested f ps)
 
-pub returns-else-not-unread_before : goal.returns-else-not-unread_before
-returns-else-not-unread_before c =
+pub returns-else-not-unmetered_before : goal.returns-else-not-unmetered_before
+returns-else-not-unmetered_before c =
     let f = finding_of c.args.self.now.finding in
     let ps = periods c.args.self.now.rows.now in
-    ap not c.if-not-unread_before.false
-    ∙ ap (λ b. not b && not (row_is unmetered ps (f.last + 1))) (sym c.if-not-unread_before.false ∙ c.unread_before.ensures)
+    ap not c.if-not-unmetered_before.false
+    ∙ ap (λ b. not b && not (row_is unmetered ps (f.last + 1))) (sym c.if-not-unmetered_before.false ∙ c.unmetered_before.ensures)
     ∙ sym (left_out_tested f ps)

@@ -1,6 +1,6 @@
 // What a call answers where it is refused: each refusal is a question that was answered no.
 ghost use Rattle.std.specs.Prelude.{◌≡◌};
-ghost use Rattle.account.specs.declared.answer.Refusal.TheVariants.{Figures};
+ghost use Rattle.account.specs.declared.refusal.Refusal.TheVariants.{Figures};
 ghost use Rattle.account.specs.Answers.{number_of};
 
 use figures::reported::OutOfLimits;
