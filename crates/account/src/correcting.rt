@@ -1,7 +1,7 @@
 // Corrections.
 ghost use Rattle.std.specs.Prelude.{◌≡◌, ℕ, ◌+◌, ◌-◌, ◌<◌, ◌≤◌, length};
 ghost use Rattle.rules.specs.Subject.{correct};
-ghost use Rattle.rules.specs.Questions.{question, first_no, bills as bills-over};
+ghost use Rattle.rules.specs.Questions.{question, first_no, bills as bills_of};
 ghost use Rattle.rules.specs.Laid.{rewritten};
 ghost use Rattle.rules.specs.Machine.{view};
 ghost use Rattle.method.specs.Uses.{finding_of};
@@ -24,7 +24,7 @@ use tariff::tariff::Tariff;
 /// Over how many bills an undercharge is spread.
 fn bills(f: Finding) -> Bills
     requires { (f.span.first ≤ f.span.last) × (f.span.last < 1000) }
-    ensures { result.count ≡ bills-over (finding_of f) }
+    ensures { result.count ≡ bills_of (finding_of f) }
 {
     let count = match f.cause {
         Cause::Absent => 6,

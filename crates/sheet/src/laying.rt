@@ -1,7 +1,7 @@
 // What a method lays down for one row.
 ghost use Rattle.std.specs.Prelude.{◌≡◌, ℕ, ◌+◌, ◌-◌, ◌*◌, ◌/◌, ◌^◌, ◌<◌, ◌≤◌};
 ghost use Rattle.rules.specs.Subject.{days, day_units, peak_units, day_weight, peak_weight};
-ghost use Rattle.rules.specs.Sharing.{whole as whole_of, share as share-of};
+ghost use Rattle.rules.specs.Sharing.{whole as whole_of, share as share_of};
 ghost use Rattle.rules.specs.Laid.{rewrites_sort};
 ghost use Rattle.figures.specs.View.{regs, sort_of, period_seen};
 ghost use Rattle.method.specs.Uses.{cause_of};
@@ -100,8 +100,8 @@ impl Sharing {
     pub(crate) fn next<M: Method>(&mut self, m: &M, row: &Row) -> Pair
         requires before { Weighed (M.Method.meaning m.now) 119 self.old.weights.day self.old.weights.peak }
         requires wholes { Whole (M.Method.meaning m.now) self.old }
-        ensures day { result.day ≡ share-of ((M.Method.meaning m.now).upper day_units) (M.Method.meaning m.now).lower self.old.weights.day (day_weight (M.Method.meaning m.now) (period_seen row.now)) }
-        ensures peak { result.peak ≡ share-of ((M.Method.meaning m.now).upper peak_units) (M.Method.meaning m.now).lower self.old.weights.peak (peak_weight (M.Method.meaning m.now) (period_seen row.now)) }
+        ensures day { result.day ≡ share_of ((M.Method.meaning m.now).upper day_units) (M.Method.meaning m.now).lower self.old.weights.day (day_weight (M.Method.meaning m.now) (period_seen row.now)) }
+        ensures peak { result.peak ≡ share_of ((M.Method.meaning m.now).upper peak_units) (M.Method.meaning m.now).lower self.old.weights.peak (peak_weight (M.Method.meaning m.now) (period_seen row.now)) }
         ensures day_more { self.new.weights.day ≡ self.old.weights.day + day_weight (M.Method.meaning m.now) (period_seen row.now) }
         ensures peak_more { self.new.weights.peak ≡ self.old.weights.peak + peak_weight (M.Method.meaning m.now) (period_seen row.now) }
         ensures light { Light (M.Method.meaning m.now) (day_weight (M.Method.meaning m.now) (period_seen row.now)) (peak_weight (M.Method.meaning m.now) (period_seen row.now)) }
@@ -119,8 +119,8 @@ impl Sharing {
 
 /// The shares of a row alone.
 pub(crate) fn alone<M: Method>(m: &M, row: &Row) -> Pair
-    ensures day { result.day ≡ share-of ((M.Method.meaning m.now).upper day_units) (M.Method.meaning m.now).lower 0 (day_weight (M.Method.meaning m.now) (period_seen row.now)) }
-    ensures peak { result.peak ≡ share-of ((M.Method.meaning m.now).upper peak_units) (M.Method.meaning m.now).lower 0 (peak_weight (M.Method.meaning m.now) (period_seen row.now)) }
+    ensures day { result.day ≡ share_of ((M.Method.meaning m.now).upper day_units) (M.Method.meaning m.now).lower 0 (day_weight (M.Method.meaning m.now) (period_seen row.now)) }
+    ensures peak { result.peak ≡ share_of ((M.Method.meaning m.now).upper peak_units) (M.Method.meaning m.now).lower 0 (peak_weight (M.Method.meaning m.now) (period_seen row.now)) }
 {
     wholes(m, weigh(m, row))
 }

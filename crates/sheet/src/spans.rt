@@ -1,7 +1,7 @@
 // Whether the span of a finding is right: whether it is billed, the sorts of its rows, and the rule of its cause.
 ghost use Rattle.std.specs.Prelude.{◌≡◌, ◌+◌, ◌-◌, ◌&&◌, Bool, nat_lt};
 ghost use Rattle.rules.specs.Subject.{Period, is_read, unmetered};
-ghost use Rattle.rules.specs.Questions.{of_sort, row_is, has_day, span_right as rule-kept, sorts_right as sorts-are-right, every, is_billed, sort_fits, not_left_out};
+ghost use Rattle.rules.specs.Questions.{of_sort, row_is, has_day, span_right as span_right_of, sorts_right as sorts_right_of, every, is_billed, sort_fits, not_left_out};
 ghost use Rattle.figures.specs.View.{sort_of};
 ghost use Rattle.method.specs.Uses.{finding_of, cause_of, side_of};
 ghost use Rattle.sheet.specs.Rows.{periods};
@@ -48,7 +48,7 @@ impl<'a> Found<'a> {
 
     /// Whether the rows are of the cause's sort, and for an absent reading no unmetered row that adjoins is left out.
     pub fn sorts_right(&self) -> bool
-        ensures { result ≡ sorts-are-right (finding_of self.now.finding) (periods self.now.rows.now) }
+        ensures { result ≡ sorts_right_of (finding_of self.now.finding) (periods self.now.rows.now) }
     {
         self.all_of_sort() && (self.finding.cause != Cause::Absent || self.none_left_out())
     }
@@ -88,7 +88,7 @@ impl<'a> Found<'a> {
 
     /// Whether the span keeps the rest of its cause's rule.
     pub fn span_right(&self) -> bool
-        ensures { result ≡ rule-kept (cause_of self.now.finding.cause) (side_of self.now.finding.side) (finding_of self.now.finding) (periods self.now.rows.now) }
+        ensures { result ≡ span_right_of (cause_of self.now.finding.cause) (side_of self.now.finding.side) (finding_of self.now.finding) (periods self.now.rows.now) }
     {
         let Finding {
             cause,

@@ -75,7 +75,7 @@ pub(crate) fn journal(page: &mut Page, line: Line) -> Result<(), Full>
     ensures { Wrote page.old page.new result (journal_line (line_seen line)) }
 {
     page.text(b"J,")?;
-    page.figure(u64::from(line.hold))?;
+    page.figure(line.hold as u64)?;
     page.text(&[b',', letter(line.letter), b','])?;
     row(page, line.row)?;
     page.push(b',')?;

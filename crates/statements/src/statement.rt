@@ -76,7 +76,7 @@ pub fn statement(tariff: u32, opening: u32, text: &[u8], page: &mut [u8]) -> Res
     ensures law { number_of result ≡ 0 → LawfulPage (numbered tariff) (opened_on opening) text.now page.new }
     ensures within { IfOk result (λ bytes. bytes ≤ length page.new) }
 {
-    let result = statement_numbered(tariff, u64::from(opening), text, page);
+    let result = statement_numbered(tariff, opening as u64, text, page);
     if result.is_err() {
         page.fill(0);
     }

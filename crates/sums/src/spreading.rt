@@ -1,7 +1,7 @@
 // What bills and corrections do to the coming instalments.
 ghost use Rattle.std.specs.Prelude.{◌≡◌, ℕ, ◌+◌, ◌-◌, ◌*◌, ◌/◌, ◌<◌, ◌≤◌, map, replicate};
-ghost use Rattle.rules.specs.Sharing.{brought as brought-by, instalment as instalment-by};
-ghost use Rattle.rules.specs.Machine.{moved_up, spread as spread-over};
+ghost use Rattle.rules.specs.Sharing.{brought as brought_of, instalment as instalment_of};
+ghost use Rattle.rules.specs.Machine.{moved_up, spread as spread_of};
 ghost use Rattle.sums.specs.Bounds.{seen, none, raised, Low};
 
 use crate::bills::Spreading;
@@ -17,7 +17,7 @@ impl Spreading {
     /// What the first `b` bills have brought.
     fn brought(self, b: u64) -> Cents
         requires { b ≤ 12 }
-        ensures { result.0 ≡ brought-by self.cents.0 self.bills.count b }
+        ensures { result.0 ≡ brought_of self.cents.0 self.bills.count b }
     {
         Cents(self.cents.0 * b.min(self.bills.count) / self.bills.count)
     }
@@ -25,7 +25,7 @@ impl Spreading {
     /// What the bill after the first `b` brings.
     fn instalment(self, b: u64) -> Cents
         requires { b < 12 }
-        ensures { result.0 ≡ instalment-by self.cents.0 self.bills.count (b + 1) }
+        ensures { result.0 ≡ instalment_of self.cents.0 self.bills.count (b + 1) }
     {
         Cents(self.brought(b + 1).0 - self.brought(b).0)
     }
@@ -53,7 +53,7 @@ impl Coming {
     /// after `take` no proof knows what the places beyond hold.
     pub fn spread(&mut self, s: Spreading)
         requires { Low self.old.places 1024 }
-        ensures { map seen self.new.places ≡ spread-over s.cents.0 s.bills.count 1 (map seen self.old.places) }
+        ensures { map seen self.new.places ≡ spread_of s.cents.0 s.bills.count 1 (map seen self.old.places) }
     {
         let reached = s.bills.count.min(12) as usize;
         for (b, place) in self.places[..reached].iter_mut().enumerate() {

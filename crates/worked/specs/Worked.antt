@@ -1,7 +1,7 @@
 -- Cases worked out by hand, beside what the definitions give. Assumes nothing.
 use Rattle.std.specs.Prelude.{◌≡◌, ℕ, true, cond, List, [], ◌∷◌, map, Ok, Err, Result}
 use Rattle.rules.specs.Subject.{Registers, Period, charge_on, Cause, under, over, stopped, altered, consumer, Finding, correcting, Method, take, bill, Opening}
-use Rattle.rules.specs.Sharing.{instalment}
+use Rattle.rules.specs.Sharing.{sum_of, whole, shares, instalment}
 use Rattle.rules.specs.Laid.{metered, rewritten, corrected}
 use Rattle.rules.specs.Questions.{question}
 use Rattle.rules.specs.Given.{given}
@@ -18,6 +18,9 @@ read_row first last units = metered first last (day_only units)
 -- three rows of 100 units
 abbrev pub hundreds : List Period
 hundreds = read_row 0 29 100 ∷ read_row 30 59 100 ∷ read_row 60 89 100 ∷ []
+
+abbrev pub hundred_each : List ℕ
+hundred_each = 100 ∷ 100 ∷ 100 ∷ []
 
 -- three rows of 900 units in 91 days, and then rows of 30 and 31 days
 abbrev pub stopped_after : List Period
@@ -60,6 +63,8 @@ table =
     ∷ (by (test_made 0 1000) (λ m. []), 14 ∷ [])
     -- 100, 100 and 100 units at 600 for 1,000
     ∷ (by (test_made 600 1000) (day_units_left (finding under 0 2) hundreds), 0 ∷ 166 ∷ 167 ∷ 167 ∷ [])
+    -- and the sum of them, beside that of the periods each rounded alone
+    ∷ (sum_of (λ s. s) (shares 1000 600 0 hundred_each) ∷ sum_of (whole 1000 600) hundred_each ∷ [], 500 ∷ 498 ∷ [])
     -- the previous three with 900 units in 91 days, over rows of 30 and 31 days
     ∷ (by (previous_made 0 stopped_after) (day_units_left (finding stopped 3 4) stopped_after), 0 ∷ 296 ∷ 307 ∷ [])
     -- H-1 with 100 units, at 10 and at 11 kVA contract demand
