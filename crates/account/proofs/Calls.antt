@@ -1,5 +1,5 @@
 -- From a call's own work to the step, and from the step to the law. Assumes nothing.
-use Rattle.std.proofs.Common.{◌≡◌, ℕ, ◌+◌, ◌≤◌, min, Bool, true, false, cond, ◌&&◌, eqb, ltb, leb, List, [], ◌∷◌, ◌++◌, map, length, take, drop, ℤ, pos, IsErrAnd, Some, None, Err, Option, Result, sym, refl, ap, ◌∙◌, subst, ap₂, arith}
+use Rattle.std.proofs.Common.{◌≡◌, ℕ, ◌+◌, ◌≤◌, min, Bool, true, false, cond, eqb, ltb, leb, List, [], ◌∷◌, ◌++◌, map, length, take, ℤ, pos, IsErrAnd, Some, None, Err, Option, Result, sym, refl, ap, ◌∙◌, subst, ap₂, arith}
 use Rattle.std.proofs.lemmas.List.{length-map, length-take-le}
 use Rattle.std.proofs.lemmas.Bool.{cond-true, cond-false, eq-eqb, ne_eqb, ltb-true, and_parts}
 use Rattle.rules.specs.Subject.{Tariff, Call, Opening}
@@ -122,8 +122,7 @@ module _ {T : Type 0} (mean : T → Tariff) where
   lawful a b c r s h e =
       let t = mean a.tariff in
       let o = opening_of a in
-      let next : state_of b ≡ after t o (c ∷ h) = s.state ∙ ap (λ (x : State). (step t o x c).1) e in
-      (
+      let next : state_of b ≡ after t o (c ∷ h) = s.state ∙ ap (λ (x : State). (step t o x c).1) e in (
         record { state = next; law = subst (λ (x : State). Law t o (c ∷ h) (shown x)) (sym next) (account_law t o (c ∷ h)) },
         s.answer ∙ ap (λ (x : State). (step t o x c).0) e ∙ answers_law t o h c,
       )

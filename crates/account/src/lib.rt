@@ -2,7 +2,6 @@
 #![tactic(auto)]
 
 pub mod account;
-pub mod refusal;
 pub mod asking;
 pub mod billing;
 pub mod correcting;
@@ -10,3 +9,4 @@ pub mod estimating;
 pub mod holding;
 pub mod opening;
 pub mod paying;
+pub mod refusal;

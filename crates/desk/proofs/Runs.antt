@@ -46,8 +46,7 @@ lawful_line mean a b line r s h is =
     let o = opening_of a in
     let c = call_after o h line in
     let so = answered_so t o (state_of a) h line is in
-    let follows : state_of b ≡ after t o (with_call h c) = s.state ∙ ap (λ x. x.1) so ∙ answered_after t o h c in
-    (
+    let follows : state_of b ≡ after t o (with_call h c) = s.state ∙ ap (λ x. x.1) so ∙ answered_after t o h c in (
       record { state = follows; law = subst (λ (x : State). Law t o (with_call h c) (shown x)) (sym follows) (account_law t o (with_call h c)) },
       s.answer ∙ ap (λ x. x.0) so ∙ outcome_so t o h c,
     )

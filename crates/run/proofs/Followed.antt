@@ -1,13 +1,12 @@
 -- Calls made one after another: what they leave as it was, and the law. Assumes nothing.
-use Rattle.std.proofs.Common.{◌≡◌, ℕ, suc, pos, ◌+◌, ◌-◌, ◌≤◌, Bool, true, false, cond, eqb, List, [], ◌∷◌, ◌++◌, length, drop, sym, refl, ap, ◌∙◌, subst, arith}
+use Rattle.std.proofs.Common.{◌≡◌, ℕ, pos, ◌+◌, ◌-◌, ◌≤◌, eqb, List, [], ◌∷◌, ◌++◌, length, drop, sym, refl, ap, ◌∙◌, subst, arith}
 use Rattle.std.proofs.lemmas.Bool.{cond_both}
 use Rattle.std.proofs.lemmas.List.{length-append, drop-drop}
-use Rattle.rules.specs.Subject.{Tariff, Finding, Method, day_weight, peak_weight, Call, take, hand_back, bill, estimate, correct, pay, Opening}
-use Rattle.rules.specs.Laid.{rewrites}
+use Rattle.rules.specs.Subject.{Tariff, Call, take, hand_back, bill, estimate, correct, pay, Opening}
 use Rattle.rules.specs.Questions.{question}
-use Rattle.rules.specs.Shown.{Row, Answer}
+use Rattle.rules.specs.Shown.{Answer}
 use Rattle.rules.specs.Law.{Law}
-use Rattle.rules.specs.Machine.{State, view, relay, effect, worth, step, after, shown}
+use Rattle.rules.specs.Machine.{State, view, effect, worth, step, after, shown}
 use Rattle.rules.proofs.Runs.{length-relay}
 use Rattle.rules.proofs.Stands.{account_law}
 use Rattle.figures.specs.declared.row.Row as figures-row
@@ -79,11 +78,11 @@ module _ {T : Type 0} (mean : T → Tariff) where
       let o = opening_of a in
       record {
         lawful = λ h e. lawful_at t o (onto h (cs ++ (c ∷ []))) d
-        (m.state
-        ∙ ap (λ (x : Tariff). (step x (opening_of b) (state_of b) c).1) f.same.tariff
-        ∙ ap (λ (x : Opening). (step t x (state_of b) c).1) f.same.opening
-        ∙ ap (λ (s : State). (step t o s c).1) (f.lawful h e).state
-        ∙ ap (after t o) (sym (onto_push h cs c)));
+            (m.state
+            ∙ ap (λ (x : Tariff). (step x (opening_of b) (state_of b) c).1) f.same.tariff
+            ∙ ap (λ (x : Opening). (step t x (state_of b) c).1) f.same.opening
+            ∙ ap (λ (s : State). (step t o s c).1) (f.lawful h e).state
+            ∙ ap (after t o) (sym (onto_push h cs c)));
         same = record {
           opening = m.same.opening ∙ f.same.opening;
           tariff = m.same.tariff ∙ f.same.tariff;
