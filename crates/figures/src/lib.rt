@@ -2,9 +2,9 @@
 #![tactic(auto)]
 
 pub mod dates;
-pub mod readings;
 pub mod line;
 pub mod money;
+pub mod readings;
 pub mod reported;
 pub mod row;
 pub mod units;
