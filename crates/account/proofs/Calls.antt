@@ -99,6 +99,7 @@ module _ {T : Type 0} (mean : T → Tariff) where
           answer = sym (ap (λ (r : Answer × State). r.0) s);
           state = sym (ap (λ (r : Answer × State). r.1) s);
           same = record { opening = refl; tariff = refl; sheet_past = refl; journal_past = refl };
+          unasked = λ k. refl;
         }
 
   -- an accepted call, by its parts
@@ -115,6 +116,7 @@ module _ {T : Type 0} (mean : T → Tariff) where
         answer = ap valued d.value ∙ sym (ap (λ (r : Answer × State). r.0) s);
         state = d.state ∙ sym (ap (λ (r : Answer × State). r.1) s);
         same = d.same;
+        unasked = λ k. absurd (omega (arith, k));
       }
 
   pub lawful : (a b : Account T) (c : Call) (r : Answer) → Stepped mean a b c r → LawfulAfter mean a b c r

@@ -1,5 +1,5 @@
 -- The account as the rules have it, and what every call promises. Assumes nothing.
-use Rattle.std.specs.Prelude.{◌≡◌, ℕ, List, [], ◌∷◌, map, length, drop, Some, None, Option}
+use Rattle.std.specs.Prelude.{◌≡◌, ℕ, ◌≤◌, List, [], ◌∷◌, map, length, drop, Some, None, Option}
 use Rattle.rules.specs.Subject.{Tariff, Call, Opening}
 use Rattle.rules.specs.Questions as rules
 use Rattle.rules.specs.Shown.{Answer}
@@ -40,11 +40,12 @@ pub record Same {T : Type 0} (mean : T → Tariff) (a b : Account T) : Type 0 wh
   pub sheet_past : drop b.sheet.filled b.sheet.memory.now ≡ drop b.sheet.filled a.sheet.memory.now
   pub journal_past : drop b.journal.filled b.journal.memory.now ≡ drop b.journal.filled a.journal.memory.now
 
--- the answer and the whole state after a call are those of the step
+-- the answer and the whole state after a call are those of the step; a refused call does not even ask the tariff
 pub record Stepped {T : Type 0} (mean : T → Tariff) (a b : Account T) (c : Call) (r : Answer) : Type 0 where
   pub answer : r ≡ (step (mean a.tariff) (opening_of a) (state_of a) c).0
   pub state : state_of b ≡ (step (mean a.tariff) (opening_of a) (state_of a) c).1
   pub same : Same mean a b
+  pub unasked : 1 ≤ r.number → b.tariff ≡ a.tariff
 
 -- an account opened over a memory follows the run h of calls, and keeps its law
 pub record Lawful {T : Type 0} (t : Tariff) (o : Opening) (h : List Call) (b : Account T) : Type 0 where

@@ -1,9 +1,9 @@
 -- Cases worked out by hand, beside what the definitions give. Assumes nothing.
 use Rattle.std.specs.Prelude.{◌≡◌, ℕ, true, cond, List, [], ◌∷◌, map, Ok, Err, Result}
-use Rattle.rules.specs.Subject.{Registers, Period, charge_on, Cause, under, over, stopped, altered, consumer, Finding, correcting, Method, take, bill, Opening}
+use Rattle.rules.specs.Subject.{Registers, Period, charge_on, estimated, no_energy, Cause, absent, under, over, stopped, altered, consumer, Finding, correcting, Method, take, bill, Opening}
 use Rattle.rules.specs.Sharing.{sum_of, whole, shares, instalment}
-use Rattle.rules.specs.Laid.{metered, rewritten, corrected}
-use Rattle.rules.specs.Questions.{question}
+use Rattle.rules.specs.Laid.{metered, blank, run, rewritten, corrected}
+use Rattle.rules.specs.Questions.{question, bills, sorts_right}
 use Rattle.rules.specs.Given.{given}
 use Rattle.tariff.specs.Hotel.{hotel_1}
 use Rattle.method.specs.Made.{test_made, contract_made, previous_made}
@@ -25,6 +25,10 @@ hundred_each = 100 ∷ 100 ∷ 100 ∷ []
 -- three rows of 900 units in 91 days, and then rows of 30 and 31 days
 abbrev pub stopped_after : List Period
 stopped_after = read_row 0 29 300 ∷ read_row 30 59 300 ∷ read_row 60 90 300 ∷ read_row 91 120 0 ∷ read_row 121 151 0 ∷ []
+
+-- two unmetered rows between read ones
+abbrev pub unmetered_between : List Period
+unmetered_between = read_row 0 29 100 ∷ blank 30 59 estimated ∷ blank 60 89 no_energy ∷ read_row 90 119 100 ∷ []
 
 abbrev pub finding : Cause → (first last : ℕ) → Finding
 finding cause first last = record { cause = cause; side = consumer; notice = 0; ascertained = true; first = first; last = last }
@@ -50,6 +54,10 @@ opening = record { day = 0; sheet = 120; journal = 1024 }
 
 abbrev pub billed_to : (last : ℕ) → List ℕ
 billed_to last = question opening (given opening (take 0 10 ∷ [])) (bill 1 last (day_only 0)) ∷ []
+
+-- the same account held for ten seconds from second 100 on; the number by which a take is refused, or 0
+abbrev pub taken_at : (now : ℕ) → ℕ
+taken_at now = question opening (given opening (take 100 10 ∷ [])) (take now 1)
 
 -- what the definitions give, and what was worked out
 abbrev pub table : List (List ℕ × List ℕ)
@@ -77,7 +85,19 @@ table =
     ∷ (by (contract_made 10 50 90 40 0) (demands_left (finding altered 0 0) (read_row 0 29 0 ∷ [])), 0 ∷ 5 ∷ [])
     -- rows of 100 and of 101 days
     ∷ (billed_to 99, 0 ∷ [])
-    ∷ (billed_to 100, 4 ∷ []) ∷ []
+    ∷ (billed_to 100, 4 ∷ [])
+    -- a hold of ten seconds from second 100 on: at 109 it still stands, at 110 it is taken over
+    ∷ (taken_at 109 ∷ taken_at 110 ∷ [], 11 ∷ 0 ∷ [])
+    -- the second row begins on the day after the first ends
+    ∷ (map (λ p. p.first) (given opening (bill 1 59 (day_only 0) ∷ bill 1 29 (day_only 0) ∷ take 0 10 ∷ [])).periods, 0 ∷ 30 ∷ [])
+    -- over how many bills each cause spreads what three rows come to
+    ∷ (map (λ c. bills (finding c 0 2)) (absent ∷ under ∷ over ∷ stopped ∷ altered ∷ []), 6 ∷ 3 ∷ 3 ∷ 3 ∷ 1 ∷ [])
+    -- of two unmetered rows between read ones none may be left out, before or after
+    ∷ (map (λ f. cond (sorts_right f unmetered_between) 1 0) (finding absent 1 2 ∷ finding absent 1 1 ∷ finding absent 2 2 ∷ []), 1 ∷ 0 ∷ 0 ∷ [])
+    -- a correction rewrites the first and the last row of its span, and no row beside it
+    ∷ (map (λ p. p.first) (rewritten (finding over 1 2) 0 stopped_after), 30 ∷ 60 ∷ [])
+    -- a run begins anew after a read row
+    ∷ (run unmetered_between ∷ run (read_row 0 0 0 ∷ blank 1 1 estimated ∷ read_row 2 2 0 ∷ blank 3 3 no_energy ∷ []) ∷ [], 0 ∷ 1 ∷ []) ∷ []
 
 abbrev pub WorkedFigures : Type 0
 WorkedFigures = map (λ c. c.0) table ≡ map (λ c. c.1) table
