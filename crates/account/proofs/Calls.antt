@@ -82,19 +82,19 @@ module _ {T : Type 0} (mean : T → Tariff) where
     abbrev result : Answer × State
     result = step (mean a.tariff) (opening_of a) (state_of a) c
 
-    step-refused : (q : ℕ) → q ≡ asked_of → 1 ≤ q → result ≡ (record { number = q; value = pos 0 }, state_of a)
+    step_refused : (q : ℕ) → q ≡ asked_of → 1 ≤ q → result ≡ (record { number = q; value = pos 0 }, state_of a)
     unfolding step
-    step-refused q e h =
+    step_refused q e h =
         cond-false (eqb asked_of 0) _ _ (ne_eqb asked_of 0 (λ z. omega (arith, z, e)))
         ∙ ap (refused_with (state_of a)) (sym e)
 
-    step-accepted : asked_of ≡ 0 → result ≡ (record { number = 0; value = worth (mean a.tariff) (opening_of a) (state_of a) c }, effect (mean a.tariff) (opening_of a) (state_of a) c)
+    step_accepted : asked_of ≡ 0 → result ≡ (record { number = 0; value = worth (mean a.tariff) (opening_of a) (state_of a) c }, effect (mean a.tariff) (opening_of a) (state_of a) c)
     unfolding step
-    step-accepted e = cond-true (eqb asked_of 0) _ _ (eq-eqb asked_of 0 e)
+    step_accepted e = cond-true (eqb asked_of 0) _ _ (eq-eqb asked_of 0 e)
 
     pub refused : (q : ℕ) → asked_of ≡ q → 1 ≤ q → Stepped mean a a c (record { number = q; value = pos 0 })
     refused q e h =
-        let s = step-refused q (sym e) h in
+        let s = step_refused q (sym e) h in
         record {
           answer = sym (ap (λ (r : Answer × State). r.0) s);
           state = sym (ap (λ (r : Answer × State). r.1) s);
@@ -111,7 +111,7 @@ module _ {T : Type 0} (mean : T → Tariff) where
 
   pub done : (a b : Account T) (c : Call) (v : ℤ) → Done a b c v → Stepped mean a b c (record { number = 0; value = v })
   done a b c v d =
-      let s = step-accepted a c d.accepted in
+      let s = step_accepted a c d.accepted in
       record {
         answer = ap valued d.value ∙ sym (ap (λ (r : Answer × State). r.0) s);
         state = d.state ∙ sym (ap (λ (r : Answer × State). r.1) s);

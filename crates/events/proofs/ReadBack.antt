@@ -29,7 +29,9 @@ use Rattle.events.specs.Reads.{on, read, unused}
 use Rattle.events.specs.Events.{Form, c_line, fields_after, event, event_in, event_from, event_of}
 use Rattle.events.specs.Carried.{is_short, cause_letter, side_letter, known_letter, finding_fields, basis_fields, fields_of, line_of, is_carried}
 use Rattle.events.specs.RoundTrip.{ReadsAs}
+use Rattle.events.proofs.Steps.{length-placed}
 use Rattle.events.proofs.Digits.{figure_read, figure_printed}
+use Rattle.events.proofs.Spelled.{six_fields}
 
 -- it has letters and digits alone, so no comma and no line end
 abbrev Printed : List ℕ → Type 0
@@ -139,12 +141,6 @@ parts_short : (fs gs : List (List ℕ)) → AllShort (fs ++ gs) → AllShort fs 
 parts_short [] gs s = (tt, s)
 parts_short (f ∷ fs) gs s = let later = parts_short fs gs s.1 in ((s.0, later.0), later.1)
 
-six_placed : (b : Basis) (column : ℕ) → length (placed column (basis_fields b)) ≡ 6
-six_placed (basis.TestMeter shown tested) column = refl
-six_placed (basis.PreviousThree from) column = refl
-six_placed (basis.LaterThree from) column = refl
-six_placed (basis.ContractDemand kva utilization power load peak) column = refl
-
 counted : (k : Form) (fs : List (ℕ × List ℕ)) → length fs ≡ fields_after k → event_in k fs ≡ event k fs
 counted k fs count = cond-true _ _ _ (eq-eqb _ _ count)
 
@@ -159,7 +155,7 @@ from_fields (Estimate hold last figure peak demand) s =
 from_fields (Correct hold finding basis) s =
     let parts = parts_short (finding_fields finding) (basis_fields basis) s.1.1 in
     let column = after_fields 3 (decimal hold ∷ []) in
-    let six = six_placed basis (after_fields column (finding_fields finding)) in
+    let six = length-placed (after_fields column (finding_fields finding)) (basis_fields basis) ∙ six_fields basis in
     counted c_line (placed 3 (decimal hold ∷ finding_fields finding ++ basis_fields basis)) (omega arith)
     ∙ figure_on _ hold _ _ s.1.0
     ∙ ap (λ r. on r (λ f fs. on (basis_in fs) (λ b fs. result_and (unused fs) (Ok (Correct hold f b))))) (finding_back finding column (basis_fields basis) parts.0)

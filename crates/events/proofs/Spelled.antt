@@ -18,7 +18,7 @@ use Rattle.events.specs.Figures.{figure_of, kwh_of, kva_of, cents_of}
 use Rattle.events.specs.Letters.{named, one_of, causes, sides, knowns, methods, cause_of, side_of, known_of, method_of, unused_of}
 use Rattle.events.specs.Reads.{on, read, unused}
 use Rattle.events.specs.Corrections.{finding_in, basis_by, basis_in}
-use Rattle.events.specs.Carried.{is_short, cause_letter, side_letter, known_letter, finding_fields}
+use Rattle.events.specs.Carried.{is_short, cause_letter, side_letter, known_letter, finding_fields, basis_fields}
 use Rattle.events.proofs.Digits.{figure_written}
 
 pub ok_inj : {A : Type 0} (x y : A) → ◌≡◌ {A = Result A ReaderFault} (Ok x) (Ok y) → x ≡ y
@@ -195,3 +195,10 @@ unused_spelled (f ∷ fs) e = so (unused_spelled fs) (unused_of f.1) refl e
         let s = later e in
         record { text = ap (λ t. t ∷ map (λ f. f.1) fs) one.0 ∙ ap (λ ts. codes "0" ∷ ts) s.text; short = s.short }
     so later None is e = cc
+
+-- a method's fields are six
+pub six_fields : (b : Basis) → length (basis_fields b) ≡ 6
+six_fields (basis.TestMeter shown tested) = refl
+six_fields (basis.PreviousThree from) = refl
+six_fields (basis.LaterThree from) = refl
+six_fields (basis.ContractDemand kva utilization power load peak) = refl

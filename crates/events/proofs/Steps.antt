@@ -120,7 +120,7 @@ unused_stops column (Some line) e some is =
     so fs (Ok x) is = cc
     so fs (Err f) is = cc
 
-length-placed : (column : ℕ) (fs : List (List ℕ)) → length (placed column fs) ≡ length fs
+pub length-placed : (column : ℕ) (fs : List (List ℕ)) → length (placed column fs) ≡ length fs
 length-placed column [] = refl
 length-placed column (f ∷ fs) = ap (λ n. suc n) (length-placed (column + (length f + 1)) fs)
 

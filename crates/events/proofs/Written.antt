@@ -19,7 +19,7 @@ use Rattle.events.specs.Corrections.{finding_in, basis_in}
 use Rattle.events.specs.Events.{Form, t_line, h_line, b_line, e_line, c_line, p_line, forms, form_of, fields_after, event, event_in, event_with, event_from, event_of}
 use Rattle.events.specs.Carried.{is_short, finding_fields, basis_fields, fields_of, line_of, is_carried}
 use Rattle.events.proofs.Digits.{figure_written}
-use Rattle.events.proofs.Spelled.{ok_inj, Writes, letter_writes, Spelled, got, none_read, field_read, more_read, kwh_written, kva_written, cents_written, used, finding_spelled, basis_spelled, unused_spelled}
+use Rattle.events.proofs.Spelled.{ok_inj, Writes, letter_writes, Spelled, got, none_read, field_read, more_read, kwh_written, kva_written, cents_written, used, six_fields, finding_spelled, basis_spelled, unused_spelled}
 
 spelled_length : {fs left : List (ℕ × List ℕ)} {gs : List (List ℕ)} → Spelled fs gs left → length fs ≡ length gs + length left
 spelled_length {fs} {left} {gs} s =
@@ -75,12 +75,6 @@ unused_after (basis.TestMeter shown tested) n e = let is : n ≡ 3 = omega arith
 unused_after (basis.PreviousThree from) n e = let is : n ≡ 4 = omega arith in rw is refl
 unused_after (basis.LaterThree from) n e = let is : n ≡ 4 = omega arith in rw is refl
 unused_after (basis.ContractDemand kva utilization power load peak) n e = let is : n ≡ 0 = omega arith in rw is refl
-
-six_fields : (b : Basis) → length (basis_fields b) ≡ 6
-six_fields (basis.TestMeter shown tested) = refl
-six_fields (basis.PreviousThree from) = refl
-six_fields (basis.LaterThree from) = refl
-six_fields (basis.ContractDemand kva utilization power load peak) = refl
 
 -- a correction's fields
 correction_so : {fs : List (ℕ × List ℕ)} (e : Event) (hold : ℕ) (f : Finding) (b : Basis) (n : ℕ) → length fs ≡ 13 → ◌≡◌ {A = Result Event ReaderFault} (Ok (Correct hold f b)) (Ok e) → Spelled fs (decimal hold ∷ finding_fields f ++ (used b ++ replicate n (codes "0"))) [] → FormWritten c_line fs e

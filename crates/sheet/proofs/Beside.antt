@@ -39,6 +39,10 @@ module _ (f : Finding) where
   pub rewrites_inside : (i : ℕ) (p : Period) → in_span f i ≡ true → rewrites f i p ≡ rewrites_sort f.cause p.sort
   rewrites_inside i p h = ap (λ b. b && rewrites_sort f.cause p.sort) h
 
+  -- of n rows that are all in the span each is rewritten by its sort
+  pub by_sort : (from n i : ℕ) (p : Period) (b : Bool) → ((k : ℕ) → k < n → in_span f (from + k) ≡ true) → i < n → b ≡ rewrites_sort f.cause p.sort → rewrites f (from + i) p ≡ b
+  by_sort from n i p b inside h k = rewrites_inside (from + i) p (inside i h) ∙ sym k
+
   cond_same : {X : Type 0} (b : Bool) (x : X) → cond b x x ≡ x
   cond_same true x = refl
   cond_same false x = refl

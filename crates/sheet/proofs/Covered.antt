@@ -9,7 +9,7 @@ use Rattle.rules.specs.Machine.{period_of, relay, posts}
 use Rattle.figures.specs.View.{seen, period_seen}
 use Rattle.figures.specs.declared.row.Row.{Row}
 use Rattle.sheet.specs.Rows.{periods, span_start, span_end, covered}
-use Rattle.sheet.proofs.Beside.{within_span, rewrites_inside, rewritten_between, asked_between, relay_between, posts_between}
+use Rattle.sheet.proofs.Beside.{within_span, by_sort, rewritten_between, asked_between, relay_between, posts_between}
 use Rattle.sheet.proofs.Sorts.{every_between}
 
 module _ (f : Finding) (rows : List Row) where
@@ -123,5 +123,5 @@ covered_part f memory n h =
     ∙ ap (λ k. take (span_end f k - span_start f k) (drop (span_start f k) (take n memory))) (sym (length-take-le n memory h))
 
 -- a row of the span is rewritten by its sort
-pub by_sort : (f : Finding) (all rows : List Row) (i : ℕ) (p : Period) (b : Bool) → rows ≡ covered f all → i < length rows → b ≡ rewrites_sort f.cause p.sort → rewrites f (span_start f (length all) + i) p ≡ b
-by_sort f all rows i p b e h k = rewrites_inside f (span_start f (length all) + i) p (covered_inside f all i (omega (arith, ap length e))) ∙ sym k
+pub covered_by_sort : (f : Finding) (all rows : List Row) (i : ℕ) (p : Period) (b : Bool) → rows ≡ covered f all → i < length rows → b ≡ rewrites_sort f.cause p.sort → rewrites f (span_start f (length all) + i) p ≡ b
+covered_by_sort f all rows i p b e h k = by_sort f (span_start f (length all)) (length (covered f all)) i p b (covered_inside f all) (omega (arith, ap length e)) k

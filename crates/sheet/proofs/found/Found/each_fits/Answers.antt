@@ -7,9 +7,9 @@ use Rattle.figures.specs.View.{period_seen}
 use Rattle.rules.proofs.Shares.{whole_none}
 use Rattle.sheet.specs.Rows.{periods, span_start, pair_fits}
 use Rattle.sheet.specs.Weighing.{Whole}
-use Rattle.sheet.proofs.Asked.{left_at, fitting, fitting_first, fitting-in, fitting-out, fitting-all}
+use Rattle.sheet.proofs.Asked.{left_at, fitting, fitting_first, fitting_in, fitting_out, fitting_all}
 use Rattle.sheet.proofs.Weights.{weighed_none, weighed_more, weighed_most, weighed_same}
-use Rattle.sheet.proofs.Covered.{by_sort, few_covered, asked_covered}
+use Rattle.sheet.proofs.Covered.{covered_by_sort, few_covered, asked_covered}
 use Rattle.sheet.proofs.found.Found.each_fits.Goals as goal
 use Rattle.sheet.proofs.found.Found.each_fits.Goals.{then-rewrites_sort+else-not-fit, else-rewrites_sort}
 
@@ -42,8 +42,8 @@ returns-then-not-fit g c =
     let W = c.loop-row.sharing.weights.peak in
     let x = c.row-item.result in
     let p = period_seen x in
-    let within : rewrites f (from + i) p ≡ true = by_sort f all rows i p true c.covered-rows.ensures c.loop-row-test.true (sym c.if-rewrites_sort.true ∙ c.rewrites_sort.ensures) in
-    let e = fitting-in f from m rows i V W x (left_at rows i x c.loop-row-test.true c.row-item.is) within in
+    let within : rewrites f (from + i) p ≡ true = covered_by_sort f all rows i p true c.covered-rows.ensures c.loop-row-test.true (sym c.if-rewrites_sort.true ∙ c.rewrites_sort.ensures) in
+    let e = fitting_in f from m rows i V W x (left_at rows i x c.loop-row-test.true c.row-item.is) within in
     let no : false ≡ shares_fit (with_standing (laid m V W p) p) = sym c.if-not-fit.true ∙ c.fit.ensures ∙ ap₂ pair_fits c.next-shares.ensures.day c.next-shares.ensures.peak in
     ap (λ b. b && fitting f from m rows (i + 1) (V + day_weight m p) (W + peak_weight m p)) no
     ∙ sym e
@@ -67,7 +67,7 @@ loop-row-preserved g c =
     elim c.if-rewrites_sort.branch [
       | then-rewrites_sort+else-not-fit w ↦
           let n = w.next-shares.ensures in
-          let e = fitting-in f from m rows i V W x here (by_sort f all rows i p true c.covered-rows.ensures c.loop-row-test.true (sym w.if-rewrites_sort.true ∙ c.rewrites_sort.ensures)) in
+          let e = fitting_in f from m rows i V W x here (covered_by_sort f all rows i p true c.covered-rows.ensures c.loop-row-test.true (sym w.if-rewrites_sort.true ∙ c.rewrites_sort.ensures)) in
           let day : c.if-rewrites_sort.sharing.weights.day ≡ V + day_weight m p = ap (λ s. s.weights.day) w.sharing-is ∙ n.day_more in
           let peak : c.if-rewrites_sort.sharing.weights.peak ≡ W + peak_weight m p = ap (λ s. s.weights.peak) w.sharing-is ∙ n.peak_more in
           let yes : true ≡ shares_fit (with_standing (laid m V W p) p) = sym w.if-not-fit.false ∙ w.fit.ensures ∙ ap₂ pair_fits n.day n.peak in
@@ -77,7 +77,7 @@ loop-row-preserved g c =
             wholes = subst (Whole m) (sym w.sharing-is) n.wholes;
           }
       | else-rewrites_sort w ↦
-          let e = fitting-out f from m rows i V W x here (by_sort f all rows i p false c.covered-rows.ensures c.loop-row-test.true (sym w.if-rewrites_sort.false ∙ c.rewrites_sort.ensures)) in
+          let e = fitting_out f from m rows i V W x here (covered_by_sort f all rows i p false c.covered-rows.ensures c.loop-row-test.true (sym w.if-rewrites_sort.false ∙ c.rewrites_sort.ensures)) in
           let day : c.if-rewrites_sort.sharing.weights.day ≡ V = ap (λ s. s.weights.day) w.sharing-is in
           let peak : c.if-rewrites_sort.sharing.weights.peak ≡ W = ap (λ s. s.weights.peak) w.sharing-is in
           record {
@@ -94,7 +94,7 @@ returns g c =
     let m = g.M.Method.meaning c.args.m.now in
     let all = c.args.self.now.rows.now in
     let from = span_start f (length all) in
-    sym (fitting-all f from m c.covered-rows.result.now c.loop-row.row-index c.loop-row.sharing.weights.day c.loop-row.sharing.weights.peak c.loop-row-test.false)
+    sym (fitting_all f from m c.covered-rows.result.now c.loop-row.row-index c.loop-row.sharing.weights.day c.loop-row.sharing.weights.peak c.loop-row-test.false)
     ∙ c.loop-row.invariant.fitting
     ∙ ap (λ xs. all_fit (rewritten f from (corrected f m from 0 0 (periods xs)))) c.covered-rows.ensures
     ∙ ap all_fit (sym (asked_covered f all m))

@@ -8,9 +8,9 @@ use Rattle.rules.proofs.Shares.{whole_more}
 use Rattle.method.specs.Uses.{finding_of}
 use Rattle.figures.specs.View.{period_seen}
 use Rattle.sheet.specs.Rows.{periods, span_start}
-use Rattle.sheet.proofs.Asked.{left_at, fitting, fitting_first, fitting-in, fitting-out, fitting-all}
+use Rattle.sheet.proofs.Asked.{left_at, fitting, fitting_first, fitting_in, fitting_out, fitting_all}
 use Rattle.sheet.proofs.Weights.{weighed_none, weighed_more, weighed_most, weighed_same}
-use Rattle.sheet.proofs.Covered.{by_sort, few_covered, asked_covered}
+use Rattle.sheet.proofs.Covered.{covered_by_sort, few_covered, asked_covered}
 use Rattle.sheet.proofs.found.Found.fit_together.Goals as goal
 use Rattle.sheet.proofs.found.Found.fit_together.Goals.{then-rewrites_sort, else-rewrites_sort}
 
@@ -49,7 +49,7 @@ loop-row-preserved g c =
     let here = left_at rows i x c.loop-row-test.true c.row-item.is in
     elim c.if-rewrites_sort.branch [
       | then-rewrites_sort w ↦
-          let e = fitting-in f from m rows i V W x here (by_sort f all rows i p true c.covered-rows.ensures c.loop-row-test.true (sym w.if-rewrites_sort.true ∙ c.rewrites_sort.ensures)) in
+          let e = fitting_in f from m rows i V W x here (covered_by_sort f all rows i p true c.covered-rows.ensures c.loop-row-test.true (sym w.if-rewrites_sort.true ∙ c.rewrites_sort.ensures)) in
           let a = ap (λ q. q.day) w.weights-is ∙ w.plus-weights.ensures.0 in
           let b = ap (λ q. q.peak) w.weights-is ∙ w.plus-weights.ensures.1 in
           let day : c.if-rewrites_sort.weights.day ≡ V + day_weight m p = a ∙ ap (λ z. V + z) w.weigh.ensures.day in
@@ -65,7 +65,7 @@ loop-row-preserved g c =
             weighed = weighed_same m (i + 1) _ _ _ _ a b (weighed_more m i V W _ _ c.loop-row.invariant.weighed w.weigh.ensures.light);
           }
       | else-rewrites_sort w ↦
-          let e = fitting-out f from m rows i V W x here (by_sort f all rows i p false c.covered-rows.ensures c.loop-row-test.true (sym w.if-rewrites_sort.false ∙ c.rewrites_sort.ensures)) in
+          let e = fitting_out f from m rows i V W x here (covered_by_sort f all rows i p false c.covered-rows.ensures c.loop-row-test.true (sym w.if-rewrites_sort.false ∙ c.rewrites_sort.ensures)) in
           let day : c.if-rewrites_sort.weights.day ≡ V = ap (λ q. q.day) w.weights-is in
           let peak : c.if-rewrites_sort.weights.peak ≡ W = ap (λ q. q.peak) w.weights-is in
           record {
@@ -96,4 +96,4 @@ returns g c h =
     ap all_fit (asked_covered f all m)
     ∙ sym (ap (λ xs. all_fit (rewritten f from (corrected f m from 0 0 (periods xs)))) c.covered-rows.ensures)
     ∙ sym (c.loop-row.invariant.fitting (omega (arith, c.wholes.ensures.day)) (omega (arith, c.wholes.ensures.peak)))
-    ∙ fitting-all f from m c.covered-rows.result.now c.loop-row.row-index c.loop-row.weights.day c.loop-row.weights.peak c.loop-row-test.false
+    ∙ fitting_all f from m c.covered-rows.result.now c.loop-row.row-index c.loop-row.weights.day c.loop-row.weights.peak c.loop-row-test.false
