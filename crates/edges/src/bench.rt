@@ -1,12 +1,12 @@
-// What the tests share: memory to lend, a tariff, and answers as numbers.
+// What the tests share: memory to lend, a tariff, meters, and tables of lines with what they are answered.
 use account::account::Account;
 use account::refusal::Refusal;
+use desk::fault::Fault;
+use desk::serving::serve;
 use figures::line::{EMPTY, Line};
-use figures::money::{Charge, Money};
 use figures::reported::{Cents, Kva, Kwh, Reading};
 use figures::row::{BLANK, Row};
 use figures::units::Units;
-use method::finding::{Cause, Finding, Side, Span};
 use method::test_meter::TestMeter;
 use std::process::Abort;
 use tariff::plain::Plain;
@@ -68,14 +68,16 @@ pub(crate) fn number<X: Drop>(answer: Result<X, Refusal>) -> u32 {
     answer.err().map_or(0, Refusal::number)
 }
 
-/// Cents, or minus the number of a refusal: one figure, so that a test's line compares either.
-pub(crate) fn cents(answer: Result<Charge, Refusal>) -> i64 {
-    answer.map_or_else(|e| -i64::from(e.number()), |charge| Money::from(charge).0)
-}
-
-/// A correction's sum, or none where it is refused.
-pub(crate) fn sum(answer: Result<Money, Refusal>) -> Option<i64> {
-    answer.ok().map(|u| u.0)
+/// Puts each line to the account, and asserts what it is answered: its value, or the number of its refusal.
+pub(crate) fn assert_lines<T: Tariff>(
+    rt: &impl Abort,
+    a: &mut Account<T>,
+    table: &[(&str, Result<i64, u32>)],
+) {
+    for (line, answer) in table {
+        let served = serve(a, line.as_bytes()).map_err(Fault::number);
+        assert_eq!(rt; served, *answer, "{line}");
+    }
 }
 
 /// What of the balance has not yet fallen due.
@@ -88,32 +90,5 @@ pub(crate) fn reading(day: u64, peak: u64, demand: u64) -> Reading {
         day: Kwh(day),
         peak: Kwh(peak),
         demand: Kva(demand),
-    }
-}
-
-/// A finding by the supplier, not ascertained; four plain figures, so that a test's line is short.
-pub(crate) fn found(cause: Cause, notice: u64, first: u64, last: u64) -> Finding {
-    Finding {
-        cause,
-        side: Side::Supplier,
-        notice,
-        ascertained: false,
-        span: Span { first, last },
-    }
-}
-
-/// A finding whose dates are known.
-pub(crate) fn ascertained(cause: Cause, first: u64, last: u64) -> Finding {
-    Finding {
-        ascertained: true,
-        ..found(cause, 0, first, last)
-    }
-}
-
-/// A report by the consumer.
-pub(crate) fn reported(cause: Cause, notice: u64, first: u64, last: u64) -> Finding {
-    Finding {
-        side: Side::Consumer,
-        ..found(cause, notice, first, last)
     }
 }

@@ -13,14 +13,19 @@ fn fault(line: &[u8]) -> (u32, u8) {
 
 #[test]
 fn letters_and_counts(rt: HostRuntime) {
-    assert_eq!(rt; fault(b""), (18, 1));
-    assert_eq!(rt; fault(b"T"), (18, 1));
-    assert_eq!(rt; fault(b"t,1,1"), (18, 1));
-    assert_eq!(rt; fault(b"\rH,1"), (18, 1));
-    assert_eq!(rt; fault(b"HH,1"), (18, 1));
-    assert_eq!(rt; fault(b"H,1,"), (18, 1));
-    assert_eq!(rt; fault(b"B,1,2,3,4"), (18, 1));
-    assert_eq!(rt; fault(b"B,1,2,3,4,5"), (0, 0));
+    for (line, number) in [
+        ("", 18),
+        ("T", 18),
+        ("t,1,1", 18),
+        ("\rH,1", 18),
+        ("HH,1", 18),
+        ("H,1,", 18),
+        ("B,1,2,3,4", 18),
+        ("B,1,2,3,4,5", 0),
+        ("B,1,2,3,4,5,6", 18),
+    ] {
+        assert_eq!(rt; fault(line.as_bytes()).0, number, "{line}");
+    }
 }
 
 #[test]
@@ -31,20 +36,23 @@ fn a_hundred_and_forty_bytes(rt: HostRuntime) {
 
 #[test]
 fn digits(rt: HostRuntime) {
-    assert_eq!(rt; fault(b"P,1,9999999999999"), (0, 0));
-    assert_eq!(rt; fault(b"P,1,10000000000000"), (19, 5));
-    assert_eq!(rt; fault(b"P,1,01"), (19, 5));
-    assert_eq!(rt; fault(b"P,0,0"), (0, 0));
-    assert_eq!(rt; fault(b"P,,0"), (19, 3));
-    assert_eq!(rt; fault(b"P,1,"), (19, 5), "one past the line's end");
-    assert_eq!(rt; fault(b"P,1,1\r"), (19, 5));
+    for (line, column) in [
+        ("P,1,9999999999999", 0),
+        ("P,1,10000000000000", 5),
+        ("P,1,01", 5),
+        ("P,0,0", 0),
+        ("P,,0", 3),
+        // one past the line's end
+        ("P,1,", 5),
+        ("P,1,1\r", 5),
+        ("P,1,\0", 5),
+        ("P,1,é", 5),
+        // the first from the left
+        ("B,1,22,333,x,y", 12),
+    ] {
+        assert_eq!(rt; fault(line.as_bytes()).1, column, "{line}");
+    }
     assert_eq!(rt; fault(b"P,1,\xff"), (19, 5));
-    assert_eq!(rt; fault(b"P,1,\0"), (19, 5));
-    assert_eq!(rt;
-        fault(b"B,1,22,333,x,y"),
-        (19, 12),
-        "the first from the left"
-    );
 }
 
 #[test]
@@ -140,11 +148,15 @@ fn method_fields_of_a_correction(rt: HostRuntime) {
 fn the_longest_lines(rt: HostRuntime) {
     let text =
         b"C,9999999999999,X,s,9999999999999,y,9999999999999,9999999999999,D,9999999999999,9999999999999,9999999999999,9999999999999,9999999999999999999";
-    assert_eq!(rt; text.len(), 141);
-    assert_eq!(rt; fault(&text[..135]), (0, 0));
-    assert_eq!(rt; fault(&text[..136]), (19, 123), "14 digits");
-    assert_eq!(rt; fault(&text[..140]), (19, 123));
-    assert_eq!(rt; fault(text), (20, 141));
+    // the last field has 13 digits, 14 digits, and as many as the line has room for
+    for (bytes, answer) in [
+        (135, (0, 0)),
+        (136, (19, 123)),
+        (140, (19, 123)),
+        (141, (20, 141)),
+    ] {
+        assert_eq!(rt; fault(&text[..bytes]), answer, "{bytes}");
+    }
     for begin in [3, 21, 37, 51] {
         let mut line =
             *b"C,1234567890123,U,c,1234567890123,n,1234567890123,1234567890123,L,1234567890123,0,0,0,0";

@@ -91,13 +91,18 @@ fn a_contract_demand_at_its_limits(rt: HostRuntime) {
 fn three_rows_at_the_sheets_end(rt: HostRuntime) {
     let mut memory = Memory::<6, 6>::new();
     let mut a = memory.open(&rt, H1, 0);
-    assert_eq!(rt; number(a.take(0, 10)), 0);
-    for (day, peak) in [(5, 0), (0, 1), (0, 0), (0, 0), (0, 0)] {
-        assert_eq!(rt;
-            number(a.bill(1, a.rows().len() as u64, reading(day, peak, 0))),
-            0
-        );
-    }
+    assert_lines(
+        &rt,
+        &mut a,
+        &[
+            ("T,0,10", Ok(1)),
+            ("B,1,0,5,0,0", Ok(8_700)),
+            ("B,1,1,0,1,0", Ok(4_140)),
+            ("B,1,2,0,0,0", Ok(3_000)),
+            ("B,1,3,0,0,0", Ok(3_000)),
+            ("B,1,4,0,0,0", Ok(3_000)),
+        ],
+    );
     for (from, previous, later) in [
         (0, 0, 0),
         (1, 0, 0),
@@ -127,17 +132,19 @@ fn three_rows_that_are_not_all_read(rt: HostRuntime) {
     let mut memory = Memory::<6, 6>::new();
     let mut a = memory.open(&rt, H1, 0);
     assert_eq!(rt; asked(PreviousThree::new(a.rows(), 0)), 16, "no row at all");
-    let category = Category::new(Kwh(300), 0, Kva(0))
-        .ok()
-        .expect(&rt, "no category");
-    assert_eq!(rt; number(a.take(0, 10)), 0);
-    for day in 0..2u64 {
-        assert_eq!(rt; number(a.bill(1, day, reading(7, 0, 0))), 0);
-    }
-    assert_eq!(rt; number(a.estimate(1, 2, &category)), 0);
-    for day in 3..6u64 {
-        assert_eq!(rt; number(a.bill(1, day, reading(7, 0, 0))), 0);
-    }
+    assert_lines(
+        &rt,
+        &mut a,
+        &[
+            ("T,0,10", Ok(1)),
+            ("B,1,0,7,0,0", Ok(10_980)),
+            ("B,1,1,7,0,0", Ok(10_980)),
+            ("E,1,2,300,0,0", Ok(14_400)),
+            ("B,1,3,7,0,0", Ok(10_980)),
+            ("B,1,4,7,0,0", Ok(10_980)),
+            ("B,1,5,7,0,0", Ok(10_980)),
+        ],
+    );
     for (from, number) in [(0, 16), (1, 16), (2, 16), (3, 0)] {
         assert_eq!(rt;
             asked(PreviousThree::new(a.rows(), from)),
@@ -197,7 +204,7 @@ fn what_the_methods_by_figures_serve(rt: HostRuntime) {
 fn what_the_methods_by_three_rows_serve(rt: HostRuntime) {
     let mut memory = Memory::<10, 10>::new();
     let mut a = memory.open(&rt, H1, 0);
-    assert_eq!(rt; number(a.take(0, 10)), 0);
+    assert_lines(&rt, &mut a, &[("T,0,10", Ok(1))]);
     for day in 0..10u64 {
         assert_eq!(rt; number(a.bill(1, day, reading(7, 0, 0))), 0);
     }
@@ -235,10 +242,16 @@ fn what_the_methods_by_three_rows_serve(rt: HostRuntime) {
 fn three_rows_from_the_first_on(rt: HostRuntime) {
     let mut memory = Memory::<3, 3>::new();
     let mut a = memory.open(&rt, H1, 0);
-    assert_eq!(rt; number(a.take(0, 10)), 0);
-    for day in 0..3u64 {
-        assert_eq!(rt; number(a.bill(1, day, reading(7, 0, 0))), 0);
-    }
+    assert_lines(
+        &rt,
+        &mut a,
+        &[
+            ("T,0,10", Ok(1)),
+            ("B,1,0,7,0,0", Ok(10_980)),
+            ("B,1,1,7,0,0", Ok(10_980)),
+            ("B,1,2,7,0,0", Ok(10_980)),
+        ],
+    );
     let previous = PreviousThree::new(a.rows(), 0)
         .ok()
         .expect(&rt, "no previous three");
