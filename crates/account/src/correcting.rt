@@ -1,12 +1,11 @@
 // Corrections.
 ghost use Rattle.std.specs.Prelude.{◌≡◌, ℕ, ◌+◌, ◌-◌, ◌<◌, ◌≤◌, length};
 ghost use Rattle.rules.specs.Subject.{correct};
-ghost use Rattle.rules.specs.Questions.{question, first_no, bills as bills_of};
+ghost use Rattle.rules.specs.Questions.{question, first_no, rows_asked, bills as bills_of};
 ghost use Rattle.rules.specs.Laid.{rewritten};
 ghost use Rattle.rules.specs.Machine.{view};
 ghost use Rattle.method.specs.Uses.{finding_of};
 ghost use Rattle.sheet.specs.Rows.{periods};
-ghost use Rattle.account.specs.Corrections.{rows_asked};
 ghost use Rattle.account.specs.State.{state_of, opening_of, Stepped, LawfulAfter};
 ghost use Rattle.account.specs.Answers.{Asked, corrected_answer};
 

@@ -1,11 +1,9 @@
 // Estimates.
 ghost use Rattle.std.specs.Prelude.{◌≡◌, ℕ, ◌+◌, ◌<◌, ◌≤◌, true, false, nat_le};
 ghost use Rattle.rules.specs.Subject.{estimate};
-ghost use Rattle.rules.specs.Laid.{next_day, run};
-ghost use Rattle.rules.specs.Questions.{question, first_no, shares_fit};
+ghost use Rattle.rules.specs.Laid.{next_day, is_late as late_after, unmetered_by};
+ghost use Rattle.rules.specs.Questions.{question, first_no, share_asked, shares_fit};
 ghost use Rattle.rules.specs.Machine.{view, periods_of};
-ghost use Rattle.sheet.specs.Rows.{unmetered_by};
-ghost use Rattle.account.specs.Estimates.{share_asked};
 ghost use Rattle.account.specs.State.{state_of, opening_of, Stepped, LawfulAfter};
 ghost use Rattle.account.specs.Work.{Roomy};
 ghost use Rattle.account.specs.Answers.{Asked, billed_answer};
@@ -30,7 +28,7 @@ struct Estimating {
 
 /// The questions about the method: none where the row is late in its run, a yes or no that `is_late` gives.
 fn ask_share<M: Method>(m: &M, late: bool, place: u64, term: Term) -> Result<(), Refusal>
-    ensures { Asked (first_no (share_asked late (M.Method.meaning m.now) place term.first.figure term.last.figure)) (λ _. (late ≡ false → shares_fit (unmetered_by late term.first.figure term.last.figure (M.Method.meaning m.now)) ≡ true)) result }
+    ensures { Asked (first_no (share_asked late place term.first.figure term.last.figure (M.Method.meaning m.now))) (λ _. (late ≡ false → shares_fit (unmetered_by late term.first.figure term.last.figure (M.Method.meaning m.now)) ≡ true)) result }
 {
     if late {
         return Ok(());
@@ -54,14 +52,14 @@ fn ask_share<M: Method>(m: &M, late: bool, place: u64, term: Term) -> Result<(),
 impl<'a, T: Tariff> Account<'a, T> {
     /// Whether the next unmetered row is the seventh of its run or later.
     fn is_late(&self) -> bool
-        ensures { result ≡ nat_le 6 (run (periods_of (state_of self.now))) }
+        ensures { result ≡ late_after (periods_of (state_of self.now)) }
     {
         estimating::run(self.rows()) >= 6
     }
 
     /// The questions of an estimate.
     fn ask_estimate<M: Method>(&self, hold: u64, last: u64, m: &M) -> Result<Estimating, Refusal>
-        ensures { Asked (question (opening_of self.now) (view (state_of self.now)) (estimate hold last (M.Method.meaning m.now))) (λ e. (e.hold ≡ hold) × (e.term.first.figure ≡ next_day self.now.opening.figure (periods_of (state_of self.now))) × (e.term.last.figure ≡ last) × (e.late ≡ nat_le 6 (run (periods_of (state_of self.now)))) × (e.late ≡ false → shares_fit (unmetered_by e.late e.term.first.figure e.term.last.figure (M.Method.meaning m.now)) ≡ true) × Roomy self.now) result }
+        ensures { Asked (question (opening_of self.now) (view (state_of self.now)) (estimate hold last (M.Method.meaning m.now))) (λ e. (e.hold ≡ hold) × (e.term.first.figure ≡ next_day self.now.opening.figure (periods_of (state_of self.now))) × (e.term.last.figure ≡ last) × (e.late ≡ late_after (periods_of (state_of self.now))) × (e.late ≡ false → shares_fit (unmetered_by e.late e.term.first.figure e.term.last.figure (M.Method.meaning m.now)) ≡ true) × Roomy self.now) result }
     {
         let hold = self.held(hold)?;
         let last = Day::new(last)?;

@@ -1,8 +1,8 @@
 -- The rows that accepted calls give keep the limits of a read row, so their sorts tell which were read. Assumes nothing.
-use Rattle.std.proofs.Common.{◌≡◌, ℕ, zero, suc, ◌+◌, true, ◌&&◌, eqb, ltb, List, [], ◌∷◌, ◌++◌, length, take, drop, refl, ap, ap₂}
+use Rattle.std.proofs.Common.{◌≡◌, ℕ, zero, suc, ◌+◌, true, ◌&&◌, eqb, List, [], ◌∷◌, ◌++◌, length, take, drop, refl, ap, ap₂}
 use Rattle.std.proofs.lemmas.Bool.{cond_both, and_parts, and_from}
 use Rattle.rules.specs.Subject.{Registers, estimated, no_energy, Period, is_read, Finding, Method, day_weight, peak_weight, Call, take as taken, hand_back, bill, estimate, correct, pay, Opening}
-use Rattle.rules.specs.Laid.{next_day, run, laid, with_standing, blank, metered, without_reading, rewrites, corrected}
+use Rattle.rules.specs.Laid.{next_day, is_late, laid, with_standing, blank, metered, without_reading, rewrites, corrected}
 use Rattle.rules.specs.Questions.{is_day, is_reading, is_term, every, asked}
 use Rattle.rules.specs.Given.{give, given, accepted}
 use Rattle.rules.specs.Owed.{billed}
@@ -23,7 +23,7 @@ by_sort_unmetered : (first last : ℕ) (m : Method) (ps : List Period) → BySor
 unfolding without_reading
 by_sort_unmetered first last m ps =
     let p = blank first last estimated in
-    cond_both (ltb (run ps) 6) (with_standing (laid m 0 0 p) p) (blank first last no_energy) BySort (λ e. refl) (λ e. refl)
+    cond_both (is_late ps) (blank first last no_energy) (with_standing (laid m 0 0 p) p) BySort (λ e. refl) (λ e. refl)
 
 each_push : (ps : List Period) (q : Period) → Each BySort ps → BySort q → Each BySort (ps ++ (q ∷ []))
 each_push [] q all h = (h, tt)

@@ -1,8 +1,8 @@
 -- The periods that accepted calls give follow one another. Assumes nothing.
-use Rattle.std.proofs.Common.{◌≡◌, ℕ, suc, ◌+◌, true, List, [], ◌∷◌, ◌++◌, ltb, refl}
+use Rattle.std.proofs.Common.{◌≡◌, ℕ, suc, ◌+◌, true, List, [], ◌∷◌, ◌++◌, refl}
 use Rattle.std.proofs.lemmas.Bool.{cond_both}
 use Rattle.rules.specs.Subject.{Period, Finding, Method, day_weight, peak_weight, estimated, no_energy, Call, take, hand_back, bill, estimate, correct, pay, Opening}
-use Rattle.rules.specs.Laid.{next_day, run, laid, with_standing, metered, blank, without_reading, rewrites, corrected}
+use Rattle.rules.specs.Laid.{next_day, is_late, laid, with_standing, metered, blank, without_reading, rewrites, corrected}
 use Rattle.rules.specs.Questions.{is_term, asked}
 use Rattle.rules.specs.Given.{give, given}
 use Rattle.rules.specs.Owed.{billed}
@@ -19,9 +19,9 @@ unfolding without_reading
 order_unmetered o last m ps h t =
     let p = blank (next_day o.day ps) last estimated in
     let q = blank (next_day o.day ps) last no_energy in
-    cond_both (ltb (run ps) 6) (with_standing (laid m 0 0 p) p) q (λ (x : Period). InOrder o.day (ps ++ (x ∷ [])))
-    (λ e. order_push o.day ps (with_standing (laid m 0 0 p) p) h refl t)
+    cond_both (is_late ps) q (with_standing (laid m 0 0 p) p) (λ (x : Period). InOrder o.day (ps ++ (x ∷ [])))
     (λ e. order_push o.day ps q h refl t)
+    (λ e. order_push o.day ps (with_standing (laid m 0 0 p) p) h refl t)
 
 -- a correction leaves the days as they are
 order_corrected : (f : Finding) (m : Method) (row V W day : ℕ) (ps : List Period) → InOrder day ps → InOrder day (corrected f m row V W ps)

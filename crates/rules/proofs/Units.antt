@@ -1,9 +1,9 @@
 -- The units that are laid down: totals, shares, and none from a run's seventh on. Assumes nothing.
-use Rattle.std.proofs.Common.{◌≡◌, ℕ, suc, ◌+◌, ◌≤◌, Bool, true, false, not, ◌||◌, ltb, List, [], ◌∷◌, ◌++◌, sym, refl, ap, ◌∙◌, subst, add-zero, add_assoc, zero-add, arith}
-use Rattle.std.proofs.lemmas.Bool.{cond_both, cond-true, cond-false, ltb-true, and_parts, false≢true}
+use Rattle.std.proofs.Common.{◌≡◌, ℕ, suc, ◌+◌, ◌≤◌, Bool, true, false, not, ◌||◌, List, [], ◌∷◌, ◌++◌, sym, refl, ap, ◌∙◌, subst, add-zero, add_assoc, zero-add, arith}
+use Rattle.std.proofs.lemmas.Bool.{cond_both, cond-true, cond-false, leb-false, and_parts, false≢true}
 use Rattle.rules.specs.Subject.{zeros, day_units, peak_units, no_energy, estimated, Period, is_estimated, unmetered, Tariff, Cause, absent, under, over, stopped, altered, Finding, Method, day_weight, peak_weight, Call, take, hand_back, bill, estimate, correct, pay, Opening}
 use Rattle.rules.specs.Sharing.{sum_of, whole, share}
-use Rattle.rules.specs.Laid.{next_day, run_on, run_past, run, laid, with_standing, blank, without_reading, in_span, rewrites_sort, rewrites, rewritten, corrected}
+use Rattle.rules.specs.Laid.{next_day, run_on, run_past, run, is_late, laid, with_standing, blank, without_reading, in_span, rewrites_sort, rewrites, rewritten, corrected}
 use Rattle.rules.specs.Questions.{of_sort, every, asked}
 use Rattle.rules.specs.Given.{give, given}
 use Rattle.rules.specs.Owed.{billed}
@@ -74,12 +74,12 @@ close_unmetered : (first last : ℕ) (m : Method) (ps : List Period) → is_esti
 unfolding without_reading
 close_unmetered first last m ps =
     let p = blank first last estimated in
-    cond_both (ltb (run ps) 6) (with_standing (laid m 0 0 p) p) (blank first last no_energy) (λ q. is_estimated q.sort ≡ true → Close m q)
+    cond_both (is_late ps) (blank first last no_energy) (with_standing (laid m 0 0 p) p) (λ q. is_estimated q.sort ≡ true → Close m q)
+    (λ e h. absurd (false≢true h))
     (λ e h. record {
       day = share_near (m.upper day_units) m.lower 0 (day_weight m p) m.lower_least;
       peak = share_near (m.upper peak_units) m.lower 0 (peak_weight m p) m.lower_least;
     })
-    (λ e h. absurd (false≢true h))
 
 pub all_whole : (o : Opening) (calls : List Call) → Every (WholeTotals o) calls
 unfolding given give
@@ -117,9 +117,9 @@ sealed_unmetered : (first last : ℕ) (m : Method) (ps : List Period) → unmete
 unfolding without_reading
 sealed_unmetered first last m ps =
     let p = blank first last estimated in
-    cond_both (ltb (run ps) 6) (with_standing (laid m 0 0 p) p) (blank first last no_energy) (λ q. unmetered q ≡ true → 6 ≤ run ps → Blank q)
-    (λ e u h. absurd (omega (arith, ltb-true (run ps) 6 e)))
+    cond_both (is_late ps) (blank first last no_energy) (with_standing (laid m 0 0 p) p) (λ q. unmetered q ≡ true → 6 ≤ run ps → Blank q)
     (λ e u h. (refl, refl))
+    (λ e u h. absurd (omega (arith, h, leb-false 6 (run ps) e)))
 
 -- no correction rewrites a period without energy
 clash : (c : Cause) → of_sort c no_energy ≡ true → rewrites_sort c no_energy ≡ true → ⊥

@@ -1,5 +1,5 @@
 -- What a call lays down for the periods that it adds or rewrites. Assumes nothing.
-use Rattle.std.specs.Prelude.{ℕ, suc, ◌+◌, Bool, true, cond, ◌&&◌, List, [], ◌∷◌, nat_le, nat_lt}
+use Rattle.std.specs.Prelude.{ℕ, suc, ◌+◌, Bool, true, cond, ◌&&◌, List, [], ◌∷◌, nat_le}
 use Rattle.rules.specs.Subject.{Registers, zeros, day_units, peak_units, Sort, read, estimated, no_energy, Period, days, is_estimated, unmetered, Cause, absent, under, over, stopped, altered, Finding, Method, day_weight, peak_weight}
 use Rattle.rules.specs.Sharing.{share}
 
@@ -39,10 +39,18 @@ metered first last r = record { first = first; last = last; sort = read; recorde
 abbrev pub blank : (first last : ℕ) → Sort → Period
 blank first last s = record { first = first; last = last; sort = s; recorded = zeros; standing = zeros }
 
--- an unmetered period after the periods ps: the method's share for it alone, or zeros from the seventh of a run on
+-- an unmetered period after the periods ps is the seventh of its run or later
+abbrev pub is_late : List Period → Bool
+is_late ps = nat_le 6 (run ps)
+
+-- an unmetered period: the method's share for it alone, or zeros where it is late
+abbrev pub unmetered_by : (late : Bool) (first last : ℕ) → Method → Period
+unmetered_by late first last m =
+    cond late (blank first last no_energy) (let p = blank first last estimated in with_standing (laid m 0 0 p) p)
+
+-- the one after the periods ps
 unfoldable pub without_reading : (first last : ℕ) → Method → List Period → Period
-without_reading first last m ps =
-    cond (nat_lt (run ps) 6) (let p = blank first last estimated in with_standing (laid m 0 0 p) p) (blank first last no_energy)
+without_reading first last m ps = unmetered_by (is_late ps) first last m
 
 abbrev pub in_span : Finding → ℕ → Bool
 in_span f row = nat_le f.first row && nat_le row f.last

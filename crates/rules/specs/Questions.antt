@@ -1,7 +1,7 @@
 -- The questions before a call is accepted. Assumes nothing.
-use Rattle.std.specs.Prelude.{◌≡◌, ℕ, zero, suc, ◌+◌, ◌-◌, min, Bool, true, false, cond, not, ◌&&◌, ◌||◌, List, [], ◌∷◌, length, Some, None, Ok, Err, Option, Result, ◌==◌, nat_eq, nat_le, nat_lt}
+use Rattle.std.specs.Prelude.{◌≡◌, ℕ, zero, suc, ◌+◌, ◌-◌, min, Bool, true, false, cond, not, ◌&&◌, ◌||◌, List, [], ◌∷◌, ◌++◌, length, Some, None, Ok, Err, Option, Result, ◌==◌, nat_eq, nat_le, nat_lt}
 use Rattle.rules.specs.Subject.{Registers, longest, Sort, Period, is_read, is_unmetered, unmetered, Cause, absent, under, over, stopped, altered, Side, consumer, supplier, Finding, Method, estimates, correcting, Call, take, hand_back, bill, estimate, correct, pay, Opening}
-use Rattle.rules.specs.Laid.{next_day, run, without_reading, in_span, rewritten, corrected}
+use Rattle.rules.specs.Laid.{next_day, is_late, unmetered_by, in_span, rewritten, corrected}
 
 pub record Hold : Type 0 where
   pub number : ℕ
@@ -125,6 +125,21 @@ all_fit (p ∷ ps) = shares_fit p && all_fit ps
 abbrev pub corrected_fit : Finding → Method → List Period → Bool
 corrected_fit f m ps = all_fit (rewritten f 0 (corrected f m 0 0 0 ps))
 
+-- of an estimate, the questions about its method, which are not asked where the period is late in its run
+abbrev pub share_asked : (late : Bool) (row first last : ℕ) → Method → List (ℕ × Bool)
+share_asked late row first last m =
+    (8, late || (m.serves estimates && m.fits estimates row row))
+    ∷ (9, late || shares_fit (unmetered_by late first last m)) ∷ []
+
+-- of a correction, those about its rows and its method
+abbrev pub rows_asked : Finding → Method → List Period → List (ℕ × Bool)
+rows_asked f m ps =
+    (5, is_billed f ps)
+    ∷ (6, sorts_right f ps)
+    ∷ (7, span_right f.cause f.side f ps)
+    ∷ (8, m.serves (correcting f.cause) && m.fits (correcting f.cause) f.first f.last)
+    ∷ (9, corrected_fit f m ps) ∷ []
+
 -- 11: no hold stands, or it has run out
 abbrev pub is_free : Books → ℕ → Bool
 is_free b now = elim b.holding [ Some h ↦ nat_le h.until now | None ↦ true ]
@@ -147,24 +162,17 @@ asked o b (bill hold last r) =
     ∷ (4, is_term (next_day o.day b.periods) last)
     ∷ (10, nat_le (b.used + 1) (journal_room o)) ∷ []
 asked o b (estimate hold last m) =
-    let row = length b.periods in
-    let late = nat_le 6 (run b.periods) in
     (1, stands b hold)
     ∷ (2, is_day last)
-    ∷ (3, nat_lt row (sheet_room o))
+    ∷ (3, nat_lt (length b.periods) (sheet_room o))
     ∷ (4, is_term (next_day o.day b.periods) last)
-    ∷ (8, late || (m.serves estimates && m.fits estimates row row))
-    ∷ (9, late || shares_fit (without_reading (next_day o.day b.periods) last m b.periods))
-    ∷ (10, nat_le (b.used + 1) (journal_room o)) ∷ []
+    ∷ (share_asked (is_late b.periods) (length b.periods) (next_day o.day b.periods) last m
+    ++ ((10, nat_le (b.used + 1) (journal_room o)) ∷ []))
 asked o b (correct hold f m) =
     (1, stands b hold)
     ∷ (2, is_day f.notice)
-    ∷ (5, is_billed f b.periods)
-    ∷ (6, sorts_right f b.periods)
-    ∷ (7, span_right f.cause f.side f b.periods)
-    ∷ (8, m.serves (correcting f.cause) && m.fits (correcting f.cause) f.first f.last)
-    ∷ (9, corrected_fit f m b.periods)
-    ∷ (10, nat_le (b.used + length (rewritten f 0 b.periods)) (journal_room o)) ∷ []
+    ∷ (rows_asked f m b.periods
+    ++ ((10, nat_le (b.used + length (rewritten f 0 b.periods)) (journal_room o)) ∷ []))
 asked o b (pay hold cents) =
     (1, stands b hold)
     ∷ (2, is_payment cents)

@@ -1,11 +1,10 @@
 // Rows that are not read.
-ghost use Rattle.std.specs.Prelude.{◌≡◌, true, false, cond};
-ghost use Rattle.rules.specs.Subject.{estimated};
-ghost use Rattle.rules.specs.Laid.{laid, with_standing, run as run_of, blank as blank_of};
+ghost use Rattle.std.specs.Prelude.{◌≡◌, true, false};
+ghost use Rattle.rules.specs.Laid.{laid, with_standing, run as run_of, blank as blank_of, unmetered_by};
 ghost use Rattle.rules.specs.Questions.{shares_fit};
 ghost use Rattle.rules.specs.Shown.{row_of};
 ghost use Rattle.figures.specs.View.{seen, period_seen, sort_of};
-ghost use Rattle.sheet.specs.Rows.{periods, unmetered_by};
+ghost use Rattle.sheet.specs.Rows.{periods};
 
 use crate::laying::alone;
 use crate::relaying::restate;

@@ -1,14 +1,12 @@
-use Rattle.std.proofs.Common.{◌≡◌, leb, pos, sym, ap, ◌∙◌, ap₂}
+use Rattle.std.proofs.Common.{◌≡◌, pos, ap, ◌∙◌, ap₂}
 use Rattle.rules.specs.Subject.{estimate}
-use Rattle.rules.specs.Laid.{next_day, run, without_reading}
+use Rattle.rules.specs.Laid.{next_day, is_late, unmetered_by, without_reading}
 use Rattle.rules.specs.Shown as show
 use Rattle.rules.specs.Machine.{effect, periods_of}
 use Rattle.figures.specs.View.{seen}
-use Rattle.sheet.specs.Rows.{unmetered_by}
 use Rattle.account.specs.State.{state_of}
 use Rattle.account.proofs.Calls.{refused_by, changed_done}
 use Rattle.account.proofs.Rows.{entered_is}
-use Rattle.account.proofs.Estimates.{unmetered_is}
 use Rattle.account.proofs.account.Account.estimate.Goals as goal
 
 pub returns-in_err-hold : goal.returns-in_err-hold
@@ -17,7 +15,7 @@ returns-in_err-hold g c =
     record { after = r.0; law = r.1 }
 
 pub returns : goal.returns
-unfolding effect
+unfolding effect without_reading
 returns g c =
     let mean = g.T.Tariff.meaning in
     let a = c.args.self.now in
@@ -32,8 +30,7 @@ returns g c =
     let row : seen c.without_reading-row.result ≡ show.row_of t (without_reading first last m ps) =
     c.without_reading-row.ensures.row
     ∙ ap (λ x. show.row_of t (unmetered_by x b.term.first.figure b.term.last.figure m)) said.1.3
-    ∙ ap₂ (λ x y. show.row_of t (unmetered_by (leb 6 (run ps)) x y m)) said.1.1 said.1.2
-    ∙ ap (show.row_of t) (sym (unmetered_is first last m ps)) in
+    ∙ ap₂ (λ x y. show.row_of t (unmetered_by (is_late ps) x y m)) said.1.1 said.1.2 in
     let r = changed_done mean a c.enter.new.self _ _ _ (record {
       granted = e.granted;
       holding = e.holding;
