@@ -35,7 +35,6 @@ fn bills(f: Finding) -> Bills
 
 /// The questions about the rows and the method; how many rows are rewritten.
 fn ask_rows<M: Method>(m: &M, found: &Found) -> Result<usize, Refusal>
-    requires { length found.now.rows.now ≤ 120 }
     ensures { Asked (first_no (rows_asked (finding_of found.now.finding) (M.Method.meaning m.now) (periods found.now.rows.now))) (λ n. n ≡ length (rewritten (finding_of found.now.finding) 0 (periods found.now.rows.now))) result }
 {
     let Finding { cause, span, .. } = found.finding;

@@ -24,7 +24,6 @@ impl<'a> Found<'a> {
 
     /// Whether the rows that a correction rewrites have shares that keep the limit all together, and so each alone.
     fn fit_together<M: Method>(&self, m: &M) -> bool
-        requires { length self.now.rows.now ≤ 120 }
         ensures { result ≡ true → corrected_fit (finding_of self.now.finding) (M.Method.meaning m.now) (periods self.now.rows.now) ≡ true }
     {
         let mut weights = NONE.weights;
@@ -39,7 +38,6 @@ impl<'a> Found<'a> {
 
     /// Whether each share of the rows that a correction rewrites keeps the limit.
     fn each_fits<M: Method>(&self, m: &M) -> bool
-        requires { length self.now.rows.now ≤ 120 }
         ensures { result ≡ corrected_fit (finding_of self.now.finding) (M.Method.meaning m.now) (periods self.now.rows.now) }
     {
         let mut sharing = NONE;
@@ -58,7 +56,6 @@ impl<'a> Found<'a> {
     /// Whether every share of the rows that a correction rewrites keeps the limit. The rows are asked together first: that divides
     /// once for each register, and not once for each register of each row.
     pub fn shares_fit<M: Method>(&self, m: &M) -> bool
-        requires { length self.now.rows.now ≤ 120 }
         ensures { result ≡ corrected_fit (finding_of self.now.finding) (M.Method.meaning m.now) (periods self.now.rows.now) }
     {
         self.fit_together(m) || self.each_fits(m)

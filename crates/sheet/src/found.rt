@@ -1,17 +1,18 @@
 // A finding laid over the rows of a sheet.
-ghost use Rattle.std.specs.Prelude.{◌≡◌};
+ghost use Rattle.std.specs.Prelude.{◌≡◌, ◌≤◌, length};
 ghost use Rattle.method.specs.Uses.{finding_of};
 ghost use Rattle.sheet.specs.Rows.{covered};
 
 use figures::row::Row;
 use method::finding::Finding;
 
-/// A finding, and the rows that its questions are asked of. Its span may be any, since asking is what tells; that the rows are
-/// few is asked by `shares_fit` alone and so is no part of the type.
+/// A finding, and the rows that its questions are asked of, as many as a sheet holds. Its span may be any, since asking is what
+/// tells.
 #[derive(Clone, Copy)]
 pub struct Found<'a> {
     pub finding: Finding,
     pub rows: &'a [Row],
+    ghost few: { length rows.now ≤ 120 },
 }
 
 impl<'a> Found<'a> {

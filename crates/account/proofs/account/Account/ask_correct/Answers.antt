@@ -10,9 +10,6 @@ use Rattle.account.specs.declared.refusal.Refusal.TheVariants.{Figures}
 use Rattle.account.proofs.Calls.{pass, stop, asked_err, number_least, more_asked, all_asked, rows_few}
 use Rattle.account.proofs.account.Account.ask_correct.Goals as goal
 
-pub ask_rows-requires : goal.ask_rows-requires
-ask_rows-requires g c = rows_few c.args.self.now _ c.rows.ensures
-
 pub journal_takes-requires : goal.journal_takes-requires
 journal_takes-requires g c =
     let few = rewritten_few (finding_of c.args.f) 0 c.rows.result.now in

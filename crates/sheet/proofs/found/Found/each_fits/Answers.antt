@@ -26,7 +26,7 @@ loop-row-init g c =
 pub next-shares-requires-clause-before : goal.next-shares-requires-clause-before
 next-shares-requires-clause-before g c =
     let few = few_covered (finding_of c.args.self.now.finding) c.args.self.now.rows.now in
-    let all = c.requires in
+    let all = c.args.self.now.few in
     weighed_most (g.M.Method.meaning c.args.m.now) c.loop-row.row-index _ _ 119 (omega (arith, ap length c.covered-rows.ensures, c.loop-row-test.true)) c.loop-row.invariant.weighed
 
 pub returns-then-not-fit : goal.returns-then-not-fit

@@ -80,7 +80,7 @@ loop-row-preserved g c =
 pub wholes-requires : goal.wholes-requires
 wholes-requires g c =
     let few = few_covered (finding_of c.args.self.now.finding) c.args.self.now.rows.now in
-    let all = c.requires in
+    let all = c.args.self.now.few in
     weighed_most (g.M.Method.meaning c.args.m.now) c.loop-row.row-index _ _ 120 (omega (arith, ap length c.covered-rows.ensures)) c.loop-row.invariant.weighed
 
 pub returns : goal.returns
