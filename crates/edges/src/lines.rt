@@ -13,18 +13,18 @@ fn fault(line: &[u8]) -> (u32, u8) {
 
 #[test]
 fn letters_and_counts(rt: HostRuntime) {
-    for (line, number) in [
-        ("", 18),
-        ("T", 18),
-        ("t,1,1", 18),
-        ("\rH,1", 18),
-        ("HH,1", 18),
-        ("H,1,", 18),
-        ("B,1,2,3,4", 18),
-        ("B,1,2,3,4,5", 0),
-        ("B,1,2,3,4,5,6", 18),
+    for (line, answer) in [
+        ("", (18, 1)),
+        ("T", (18, 1)),
+        ("t,1,1", (18, 1)),
+        ("\rH,1", (18, 1)),
+        ("HH,1", (18, 1)),
+        ("H,1,", (18, 1)),
+        ("B,1,2,3,4", (18, 1)),
+        ("B,1,2,3,4,5", (0, 0)),
+        ("B,1,2,3,4,5,6", (18, 1)),
     ] {
-        assert_eq!(rt; fault(line.as_bytes()).0, number, "{line}");
+        assert_eq!(rt; fault(line.as_bytes()), answer, "{line}");
     }
 }
 
@@ -36,21 +36,21 @@ fn a_hundred_and_forty_bytes(rt: HostRuntime) {
 
 #[test]
 fn digits(rt: HostRuntime) {
-    for (line, column) in [
-        ("P,1,9999999999999", 0),
-        ("P,1,10000000000000", 5),
-        ("P,1,01", 5),
-        ("P,0,0", 0),
-        ("P,,0", 3),
+    for (line, answer) in [
+        ("P,1,9999999999999", (0, 0)),
+        ("P,1,10000000000000", (19, 5)),
+        ("P,1,01", (19, 5)),
+        ("P,0,0", (0, 0)),
+        ("P,,0", (19, 3)),
         // one past the line's end
-        ("P,1,", 5),
-        ("P,1,1\r", 5),
-        ("P,1,\0", 5),
-        ("P,1,é", 5),
+        ("P,1,", (19, 5)),
+        ("P,1,1\r", (19, 5)),
+        ("P,1,\0", (19, 5)),
+        ("P,1,é", (19, 5)),
         // the first from the left
-        ("B,1,22,333,x,y", 12),
+        ("B,1,22,333,x,y", (19, 12)),
     ] {
-        assert_eq!(rt; fault(line.as_bytes()).1, column, "{line}");
+        assert_eq!(rt; fault(line.as_bytes()), answer, "{line}");
     }
     assert_eq!(rt; fault(b"P,1,\xff"), (19, 5));
 }

@@ -88,9 +88,17 @@ fn the_largest_figures(rt: HostRuntime) {
         notice: 0,
         ascertained: false,
         span: Span {
-            first: 0,
+            first: 9_999_999_999_999,
             last: u64::MAX,
         },
     };
     assert_eq!(rt; number(a.correct(1, finding, &SLOW)), 5);
+    let from_the_first = Finding {
+        span: Span {
+            first: 0,
+            last: u64::MAX,
+        },
+        ..finding
+    };
+    assert_eq!(rt; number(a.correct(1, from_the_first, &SLOW)), 5);
 }
