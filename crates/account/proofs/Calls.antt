@@ -7,11 +7,10 @@ use Rattle.rules.specs.Questions.{question, asked, first_no, sheet_room, journal
 use Rattle.std.proofs.lemmas.Result.{err_from_is_err_and}
 use Rattle.rules.specs.Shown as show
 use Rattle.rules.specs.Law.{Law}
-use Rattle.rules.specs.Machine.{State, opened, view, step, effect, worth, after, shown, periods_of}
-use Rattle.rules.specs.Shown.{Answer}
+use Rattle.rules.specs.Machine.{opened, view, step, effect, worth, periods_of}
+use Rattle.rules.specs.Shown.{Answer, State}
 use Rattle.rules.proofs.Holds.{numbered}
-use Rattle.rules.proofs.Worth.{answers_law}
-use Rattle.rules.proofs.Stands.{account_law}
+use Rattle.rules.proofs.Stands.{law_opened, law_step}
 use Rattle.book.specs.Pages.{Pages, pages_of, written, appended, fresh}
 use Rattle.book.proofs.Room.{appended_room}
 use Rattle.figures.specs.View.{seen, line_seen}
@@ -26,7 +25,7 @@ use Rattle.account.specs.declared.refusal.Refusal.{Refusal}
 use Rattle.account.specs.declared.refusal.Refusal.TheVariants.{NoHold, Figures, SheetFull, Period, NotBilled, WrongSort, WrongSpan, NoFit, ShareTooLarge, JournalFull, Held, NoNumber}
 use Rattle.sheet.specs.Rows.{rows_of}
 use Rattle.account.specs.Answers.{number_of, answered, Asked}
-use Rattle.account.specs.State.{hold_of, state_of, opening_of, Same, Stepped, LawfulAfter, opened_over, Opened}
+use Rattle.account.specs.State.{hold_of, state_of, opening_of, Same, Stepped, Keeps, LawfulAfter, opened_over, Opened}
 use Rattle.account.specs.Work.{Changed}
 
 -- a filled part is as long as it is filled
@@ -119,15 +118,16 @@ module _ {T : Type 0} (mean : T → Tariff) where
         unasked = λ k. absurd (omega (arith, k));
       }
 
+  -- an account in the state that keeps the law, opened as another was, and under a tariff of the same meaning
+  pub kept_by : (a b : Account T) (h : List Call) (s : State) → Law (mean a.tariff) (opening_of a) h s → state_of b ≡ s → Same mean a b → Keeps mean h b
+  kept_by a b h s l e same =
+      subst (λ (t : Tariff). Law t (opening_of b) h (state_of b)) (sym same.tariff)
+      (subst (λ (o : Opening). Law (mean a.tariff) o h (state_of b)) (sym same.opening) (subst (Law (mean a.tariff) (opening_of a) h) (sym e) l))
+
   pub lawful : (a b : Account T) (c : Call) (r : Answer) → Stepped mean a b c r → LawfulAfter mean a b c r
-  unfolding after
-  lawful a b c r s h e =
-      let t = mean a.tariff in
-      let o = opening_of a in
-      let next : state_of b ≡ after t o (c ∷ h) = s.state ∙ ap (λ (x : State). (step t o x c).1) e in (
-        record { state = next; law = subst (λ (x : State). Law t o (c ∷ h) (shown x)) (sym next) (account_law t o (c ∷ h)) },
-        s.answer ∙ ap (λ (x : State). (step t o x c).0) e ∙ answers_law t o h c,
-      )
+  lawful a b c r s h l =
+      let n = law_step (mean a.tariff) (opening_of a) h (state_of a) c l in
+      (kept_by a b (c ∷ h) _ n.0 s.state s.same, s.answer ∙ n.1)
 
 pub number_least : (e : Refusal) → 1 ≤ number_of e
 number_least NoHold = omega arith
@@ -215,7 +215,6 @@ grown_limit a q ls g = g.limit ∙ a.journal_limit ∙ ap (λ n. min n 1024) (sy
 
 -- an account with nothing in it
 pub opened_is : {T : Type 0} (mean : T → Tariff) (a : Account T) (day : ℕ) (sheet : List Row) (journal : List Line) → a.opening.figure ≡ day → a.granted ≡ 0 → a.holding ≡ None → totals a.sums ≡ nothing → pages_of a.sheet ≡ fresh sheet 120 → pages_of a.journal ≡ fresh journal 1024 → Opened mean a a.tariff day sheet journal
-unfolding after
 opened_is mean a day sheet journal d g h s p q =
     let rows = ap (λ (x : Pages Row). x.memory) p in
     let lines = ap (λ (x : Pages Line). x.memory) q in
@@ -227,7 +226,7 @@ opened_is mean a day sheet journal d g h s p q =
     ap (λ x. opened_of x (length a.sheet.memory.now) (length a.journal.memory.now)) d ∙ ap₂ (λ x y. opened_of day (length x) (length y)) rows lines in
     record {
       tariff = refl;
-      lawful = record { state = e; law = subst (λ (x : State). Law (mean a.tariff) (opened_over day sheet journal) [] (shown x)) (sym e) (account_law (mean a.tariff) (opened_over day sheet journal) []) };
+      law = subst (Law (mean a.tariff) (opening_of a) []) (sym e) (law_opened (mean a.tariff) (opening_of a));
       opening = o;
       rows = rows;
       lines = lines;

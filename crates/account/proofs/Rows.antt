@@ -1,10 +1,11 @@
 -- Rows entered into the sheet. Assumes nothing.
 use Rattle.std.proofs.Common.{◌≡◌, ℕ, ◌+◌, ◌-◌, ◌<◌, ◌≤◌, List, [], ◌∷◌, ◌++◌, map, length, get_or, take, drop, ℤ, pos, Some, sym, refl, ap, ◌∙◌, ap₂, arith}
 use Rattle.std.proofs.lemmas.List.{take_all, take_more, take_more_set, map_push, length-set, drop-set-lt}
+use Rattle.rules.specs.Shown.{State}
 use Rattle.rules.specs.Subject.{Registers, Period, Tariff, charge_on}
 use Rattle.rules.specs.Laid.{next_day, metered}
 use Rattle.rules.specs.Shown as show
-use Rattle.rules.specs.Machine.{State, period_of, bill_row}
+use Rattle.rules.specs.Machine.{period_of, bill_row}
 use Rattle.book.specs.Pages.{Pages, pages_of, written}
 use Rattle.figures.specs.View.{seen, period_seen}
 use Rattle.figures.specs.declared.row.Row.{Row}

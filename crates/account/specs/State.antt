@@ -2,9 +2,9 @@
 use Rattle.std.specs.Prelude.{◌≡◌, ℕ, ◌≤◌, List, [], ◌∷◌, map, length, drop, Some, None, Option}
 use Rattle.rules.specs.Subject.{Tariff, Call, Opening}
 use Rattle.rules.specs.Questions as rules
-use Rattle.rules.specs.Shown.{Answer}
+use Rattle.rules.specs.Shown.{Answer, State}
 use Rattle.rules.specs.Law.{Law, answer_to}
-use Rattle.rules.specs.Machine.{State, step, after, shown}
+use Rattle.rules.specs.Machine.{step}
 use Rattle.book.specs.Pages.{pages_of}
 use Rattle.figures.specs.declared.row.Row.{Row}
 use Rattle.figures.specs.declared.line.Line.{Line}
@@ -47,25 +47,23 @@ pub record Stepped {T : Type 0} (mean : T → Tariff) (a b : Account T) (c : Cal
   pub same : Same mean a b
   pub unasked : 1 ≤ r.number → b.tariff ≡ a.tariff
 
--- an account opened over a memory follows the run h of calls, and keeps its law
-pub record Lawful {T : Type 0} (t : Tariff) (o : Opening) (h : List Call) (b : Account T) : Type 0 where
-  pub state : state_of b ≡ after t o h
-  pub law : Law t o h (shown (state_of b))
+-- an account keeps the law of a history
+abbrev pub Keeps : {T : Type 0} (mean : T → Tariff) (h : List Call) (a : Account T) → Type 0
+Keeps mean h a = Law (mean a.tariff) (opening_of a) h (state_of a)
 
--- where an account follows a run before a call, it follows and keeps the law of the run with the call after it, and the call was
--- answered as the run has it
+-- for every history: where the account before keeps the law of it, the account after keeps the law of the history with this call, and the
+-- answer is the one that the history gives
 abbrev pub LawfulAfter : {T : Type 0} (mean : T → Tariff) (a b : Account T) (c : Call) (r : Answer) → Type 0
 LawfulAfter mean a b c r =
-    (h : List Call) → state_of a ≡ after (mean a.tariff) (opening_of a) h →
-    Lawful (mean a.tariff) (opening_of a) (c ∷ h) b × (r ≡ answer_to (mean a.tariff) (opening_of a) h c)
+    (h : List Call) → Keeps mean h a → Keeps mean (c ∷ h) b × (r ≡ answer_to (mean a.tariff) (opening_of a) h c)
 
 abbrev pub opened_over : (day : ℕ) → List Row → List Line → Opening
 opened_over day sheet journal = record { day = day; sheet = length sheet; journal = length journal }
 
--- an account just opened follows the empty run and keeps the law; the memory that it was lent is as it was
+-- an account just opened keeps the law of no calls; the memory that it was lent is as it was
 pub record Opened {T : Type 0} (mean : T → Tariff) (a : Account T) (t : T) (day : ℕ) (sheet : List Row) (journal : List Line) : Type 0 where
   pub tariff : a.tariff ≡ t
-  pub lawful : Lawful (mean t) (opened_over day sheet journal) [] a
+  pub law : Keeps mean [] a
   pub opening : opening_of a ≡ opened_over day sheet journal
   pub rows : a.sheet.memory.now ≡ sheet
   pub lines : a.journal.memory.now ≡ journal

@@ -1,9 +1,10 @@
 -- The call that a line of the text makes, and what the line is answered. Assumes nothing.
 use Rattle.std.specs.Prelude.{ℕ, List, ◌∷◌, ℤ, pos, Ok, Err, Result}
+use Rattle.rules.specs.Shown.{State}
 use Rattle.rules.specs.Subject as rules
 use Rattle.rules.specs.Subject.{Period, Tariff, Method, Call, Opening}
 use Rattle.rules.specs.Law.{answer_to}
-use Rattle.rules.specs.Machine.{State, step}
+use Rattle.rules.specs.Machine.{step}
 use Rattle.figures.specs.View.{reading_of}
 use Rattle.method.specs.Uses.{finding_of}
 use Rattle.method.specs.Made.{test_made, category_made, contract_made, previous_made, later_made}

@@ -6,7 +6,8 @@ use Rattle.rules.specs.Laid.{next_day, is_late, laid, with_standing, blank, mete
 use Rattle.rules.specs.Questions.{is_day, is_reading, is_term, every, asked}
 use Rattle.rules.specs.Given.{give, given, accepted}
 use Rattle.rules.specs.Owed.{billed}
-use Rattle.rules.specs.Law.{Every, Each}
+use Rattle.rules.specs.Law.{Every}
+use Rattle.rules.proofs.Journal.{Each}
 use Rattle.rules.proofs.Runs.{Passed, accepted_passed}
 use Rattle.rules.proofs.Holds.{answers}
 use Rattle.method.specs.Three.{three_from, is_read_row, all_read}

@@ -9,11 +9,11 @@ use Rattle.rules.specs.Sharing.{brought, instalment}
 use Rattle.rules.specs.Laid.{corrected}
 use Rattle.rules.specs.Questions.{size, bills_of, bills, span_right, row_is, has_day, asked}
 use Rattle.rules.specs.Given.{give, given}
-use Rattle.rules.specs.Shown.{row_of, Instalment}
+use Rattle.rules.specs.Shown.{row_of, Instalment, State}
 use Rattle.rules.specs.Owed.{billed, charged, undercharge, not_yet_due, brings, bringing, instalments}
 use Rattle.rules.specs.Journal.{cents_of}
 use Rattle.rules.specs.Law.{Every}
-use Rattle.rules.specs.Machine.{empty, State, first_cents, moved_up, spread, posts, bill_row, effect}
+use Rattle.rules.specs.Machine.{empty, first_cents, moved_up, spread, posts, bill_row, effect}
 use Rattle.rules.proofs.Shares.{brought_none, brought_of_none, brought_more, brought_all, brought_late}
 use Rattle.rules.proofs.Runs.{ran, rows_ran, Passed}
 use Rattle.rules.proofs.Holds.{answers}

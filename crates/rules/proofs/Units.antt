@@ -1,105 +1,14 @@
--- The units that are laid down: totals, shares, and none from a run's seventh on. Assumes nothing.
-use Rattle.std.proofs.Common.{◌≡◌, ℕ, suc, ◌+◌, ◌≤◌, Bool, true, false, not, ◌||◌, List, [], ◌∷◌, ◌++◌, sym, refl, ap, ◌∙◌, subst, add-zero, add_assoc, zero-add, arith}
-use Rattle.std.proofs.lemmas.Bool.{cond_both, cond-true, cond-false, leb-false, and_parts, false≢true}
-use Rattle.rules.specs.Subject.{zeros, day_units, peak_units, no_energy, estimated, Period, is_estimated, unmetered, Tariff, Cause, absent, under, over, stopped, altered, Finding, Method, day_weight, peak_weight, Call, take, hand_back, bill, estimate, correct, pay, Opening}
-use Rattle.rules.specs.Sharing.{sum_of, whole, share}
-use Rattle.rules.specs.Laid.{next_day, run_on, run_past, run, is_late, laid, with_standing, blank, without_reading, in_span, rewrites_sort, rewrites, rewritten, corrected}
+-- No energy is charged from a run's seventh period on. Assumes nothing.
+use Rattle.std.proofs.Common.{◌≡◌, ℕ, suc, ◌+◌, ◌≤◌, Bool, true, false, not, ◌||◌, List, [], ◌∷◌, ◌++◌, refl, ap, ◌∙◌, subst, arith}
+use Rattle.std.proofs.lemmas.Bool.{cond_both, leb-false, and_parts, false≢true}
+use Rattle.rules.specs.Subject.{zeros, no_energy, estimated, Period, unmetered, Tariff, Cause, absent, under, over, stopped, altered, Finding, Method, day_weight, peak_weight, Call, take, hand_back, bill, estimate, correct, pay, Opening}
+use Rattle.rules.specs.Laid.{next_day, run_on, run_past, run, is_late, laid, with_standing, blank, without_reading, in_span, rewrites_sort, rewrites, corrected}
 use Rattle.rules.specs.Questions.{of_sort, every, asked}
 use Rattle.rules.specs.Given.{give, given}
 use Rattle.rules.specs.Owed.{billed}
-use Rattle.rules.specs.Law.{Every, Each, AddsUp, WholeTotals, Close, CloseShares, NoneFromSeventh}
-use Rattle.rules.proofs.Shares.{whole_none, share_next, share_near}
+use Rattle.rules.specs.Law.{Every, NoneFromSeventh}
 use Rattle.rules.proofs.Runs.{Passed}
 use Rattle.rules.proofs.Holds.{answers}
-
--- one share more
-total_more : (N D V w s x : ℕ) → s ≡ share N D V w → (rest : ℕ) → whole N D (V + w) + rest ≡ whole N D ((V + w) + x) → whole N D V + (s + rest) ≡ whole N D (V + (w + x))
-total_more N D V w s x e rest h = let k = ap (whole N D) (add_assoc V w x) in omega (arith, share_next N D V w)
-
-total_from_none : (N D X S : ℕ) → whole N D 0 + S ≡ whole N D (0 + X) → S ≡ whole N D X
-total_from_none N D X S h = omega (arith, whole_none N D, ap (whole N D) (zero-add X))
-
-module _ (f : Finding) (m : Method) where
-  abbrev Totals : (V W : ℕ) → List Period → Type 0
-  Totals V W rows =
-      (whole (m.upper day_units) m.lower V + sum_of (λ p. p.standing.day) rows ≡ whole (m.upper day_units) m.lower (V + sum_of (day_weight m) rows))
-      × (whole (m.upper peak_units) m.lower W + sum_of (λ p. p.standing.peak) rows ≡ whole (m.upper peak_units) m.lower (W + sum_of (peak_weight m) rows))
-
-  totals_from : (row V W : ℕ) (ps : List Period) → Totals V W (rewritten f row (corrected f m row V W ps))
-  unfolding rewritten corrected
-  totals_from row V W [] = (add-zero _ ∙ ap (whole (m.upper day_units) m.lower) (sym (add-zero V)), add-zero _ ∙ ap (whole (m.upper peak_units) m.lower) (sym (add-zero W)))
-  totals_from row V W (p ∷ ps) =
-      let b = rewrites f row p in
-      let q = with_standing (laid m V W p) p in
-      let V' = V + day_weight m p in
-      let W' = W + peak_weight m p in
-      let more = corrected f m (suc row) V' W' ps in
-      cond_both b (q ∷ more) (p ∷ corrected f m (suc row) V W ps)
-      (λ new. Totals V W (rewritten f row new))
-      (λ e.
-      let rest = rewritten f (suc row) more in
-      let h = totals_from (suc row) V' W' ps in
-      subst (Totals V W) (sym (cond-true b (q ∷ rest) rest e)) (
-        total_more (m.upper day_units) m.lower V (day_weight m p) _ (sum_of (day_weight m) rest) refl (sum_of (λ p. p.standing.day) rest) h.0,
-        total_more (m.upper peak_units) m.lower W (peak_weight m p) _ (sum_of (peak_weight m) rest) refl (sum_of (λ p. p.standing.peak) rest) h.1,
-      ))
-      (λ e. subst (Totals V W) (sym (cond-false b _ _ e)) (totals_from (suc row) V W ps))
-
-  pub adds_up : (ps : List Period) → AddsUp m (rewritten f 0 (corrected f m 0 0 0 ps))
-  adds_up ps =
-      let h = totals_from 0 0 0 ps in
-      record { day = total_from_none (m.upper day_units) m.lower _ _ h.0; peak = total_from_none (m.upper peak_units) m.lower _ _ h.1 }
-
-  pub close : (row V W : ℕ) (ps : List Period) → Each (Close m) (rewritten f row (corrected f m row V W ps))
-  unfolding rewritten corrected
-  close row V W [] = tt
-  close row V W (p ∷ ps) =
-      let b = rewrites f row p in
-      let q = with_standing (laid m V W p) p in
-      let V' = V + day_weight m p in
-      let W' = W + peak_weight m p in
-      let more = corrected f m (suc row) V' W' ps in
-      cond_both b (q ∷ more) (p ∷ corrected f m (suc row) V W ps)
-      (λ new. Each (Close m) (rewritten f row new))
-      (λ e.
-      let rest = rewritten f (suc row) more in
-      let c : Close m q = record {
-        day = share_near (m.upper day_units) m.lower V (day_weight m p) m.lower_least;
-        peak = share_near (m.upper peak_units) m.lower W (peak_weight m p) m.lower_least;
-      } in
-      subst (Each (Close m)) (sym (cond-true b (q ∷ rest) rest e)) (c, close (suc row) V' W' ps))
-      (λ e. subst (Each (Close m)) (sym (cond-false b _ _ e)) (close (suc row) V W ps))
-
-close_unmetered : (first last : ℕ) (m : Method) (ps : List Period) → is_estimated (without_reading first last m ps).sort ≡ true → Close m (without_reading first last m ps)
-unfolding without_reading
-close_unmetered first last m ps =
-    let p = blank first last estimated in
-    cond_both (is_late ps) (blank first last no_energy) (with_standing (laid m 0 0 p) p) (λ q. is_estimated q.sort ≡ true → Close m q)
-    (λ e h. absurd (false≢true h))
-    (λ e h. record {
-      day = share_near (m.upper day_units) m.lower 0 (day_weight m p) m.lower_least;
-      peak = share_near (m.upper peak_units) m.lower 0 (peak_weight m p) m.lower_least;
-    })
-
-pub all_whole : (o : Opening) (calls : List Call) → Every (WholeTotals o) calls
-unfolding given give
-all_whole o [] = tt
-all_whole o (take now length ∷ before) = (tt, all_whole o before)
-all_whole o (hand_back hold ∷ before) = (tt, all_whole o before)
-all_whole o (bill hold last r ∷ before) = (tt, all_whole o before)
-all_whole o (estimate hold last m ∷ before) = (tt, all_whole o before)
-all_whole o (correct hold f m ∷ before) = (adds_up f m (billed o before), all_whole o before)
-all_whole o (pay hold cents ∷ before) = (tt, all_whole o before)
-
-pub all_close : (o : Opening) (calls : List Call) → Every (CloseShares o) calls
-unfolding given give
-all_close o [] = tt
-all_close o (take now length ∷ before) = (tt, all_close o before)
-all_close o (hand_back hold ∷ before) = (tt, all_close o before)
-all_close o (bill hold last r ∷ before) = (tt, all_close o before)
-all_close o (estimate hold last m ∷ before) = (close_unmetered (next_day o.day (billed o before)) last m (billed o before), all_close o before)
-all_close o (correct hold f m ∷ before) = (close f m 0 0 0 (billed o before), all_close o before)
-all_close o (pay hold cents ∷ before) = (tt, all_close o before)
 
 -- from a run's seventh on a period is without energy, and stays so
 abbrev Blank : Period → Type 0

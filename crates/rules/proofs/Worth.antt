@@ -5,12 +5,12 @@ use Rattle.rules.specs.Subject.{Period, Tariff, charge, Call, take, hand_back, b
 use Rattle.rules.specs.Laid.{next_day, metered, without_reading}
 use Rattle.rules.specs.Questions.{Books, question}
 use Rattle.rules.specs.Given.{give, given, accepted}
-use Rattle.rules.specs.Shown.{Answer}
+use Rattle.rules.specs.Shown.{Answer, State}
 use Rattle.rules.specs.Owed.{billed}
 use Rattle.rules.specs.Journal.{cents_of}
-use Rattle.rules.specs.Law.{worth_of}
-use Rattle.rules.specs.Machine.{State, view, posts, worth, step, after, AnswersLaw}
-use Rattle.rules.proofs.Runs.{of_cond, ran, view_ran, rows_ran, after_ran}
+use Rattle.rules.specs.Law.{worth_of, answer_to}
+use Rattle.rules.specs.Machine.{view, posts, worth, step}
+use Rattle.rules.proofs.Runs.{of_cond, after, ran, view_ran, rows_ran, after_ran}
 use Rattle.rules.proofs.Holds.{granted_takes}
 use Rattle.rules.proofs.Journal.{posts_changes, cents_changes, charged_push}
 
@@ -33,7 +33,7 @@ worth_ran t o (correct hold f m) calls =
     ∙ omega (arith, ints, cents_changes t f m hold 0 0 0 ps)
 worth_ran t o (pay hold cents) calls = refl
 
-pub answers_law : AnswersLaw
+pub answers_law : (t : Tariff) (o : Opening) (h : List Call) (c : Call) → (step t o (after t o h) c).0 ≡ answer_to t o h c
 unfolding step
 answers_law t o h c =
     let calls = accepted o h in

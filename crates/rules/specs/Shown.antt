@@ -1,6 +1,7 @@
 -- What an account shows, and what it answers. Assumes nothing.
 use Rattle.std.specs.Prelude.{ℕ, List, ℤ, Option}
 use Rattle.rules.specs.Subject.{Period, Tariff, charge}
+use Rattle.rules.specs.Questions.{Hold}
 
 -- a row of the sheet: a period, and what it is charged
 pub record Row : Type 0 where
@@ -26,13 +27,15 @@ pub record Instalment : Type 0 where
   pub cents : ℕ
   pub count : ℕ
 
--- what an account shows: its sums, its coming instalments, its rows and its lines
-pub record Shown : Type 0 where
+-- an account: how many holds it has granted and the one that stands, its rows and its lines, its sums and its coming instalments
+pub record State : Type 0 where
+  pub granted : ℕ
+  pub holding : Option Hold
+  pub rows : List Row
+  pub lines : List Line
   pub balance : ℤ
   pub due : ℤ
   pub coming : List Instalment
-  pub rows : List Row
-  pub lines : List Line
 
 -- 0 where a call is accepted, else the number of the question that refuses it; and a value
 pub record Answer : Type 0 where

@@ -4,16 +4,15 @@ use Rattle.std.proofs.lemmas.Bool.{cond_both}
 use Rattle.std.proofs.lemmas.List.{length-append, drop-drop}
 use Rattle.rules.specs.Subject.{Tariff, Call, take, hand_back, bill, estimate, correct, pay, Opening}
 use Rattle.rules.specs.Questions.{question}
-use Rattle.rules.specs.Shown.{Answer}
-use Rattle.rules.specs.Law.{Law}
-use Rattle.rules.specs.Machine.{State, view, effect, worth, step, after, shown}
+use Rattle.rules.specs.Shown.{Answer, State}
+use Rattle.rules.specs.Machine.{view, effect, worth, step}
 use Rattle.rules.proofs.Runs.{length-relay}
-use Rattle.rules.proofs.Stands.{account_law}
+use Rattle.rules.proofs.Stands.{law_step}
 use Rattle.figures.specs.declared.row.Row as figures-row
 use Rattle.figures.specs.declared.line.Line as figures-line
 use Rattle.account.specs.declared.account.Account.{Account}
-use Rattle.account.specs.State.{state_of, opening_of, Lawful, opened_over, Opened}
-use Rattle.account.proofs.Calls.{rows_length, lines_length}
+use Rattle.account.specs.State.{state_of, opening_of, Keeps, Opened}
+use Rattle.account.proofs.Calls.{rows_length, lines_length, kept_by}
 use Rattle.run.specs.Runs.{Moved, onto, Follows, KeepsLaw}
 
 -- rows and lines of one state are no more than those of another
@@ -56,9 +55,6 @@ onto_push h [] c = refl
 onto_push h (d ∷ cs) c = onto_push (d ∷ h) cs c
 
 module _ {T : Type 0} (mean : T → Tariff) where
-  lawful_at : (t : Tariff) (o : Opening) (h : List Call) (b : Account T) → state_of b ≡ after t o h → Lawful t o h b
-  lawful_at t o h b e = record { state = e; law = subst (λ (x : State). Law t o h (shown x)) (sym e) (account_law t o h) }
-
   rows_grow : (a b : Account T) (c : Call) → Moved mean a b c → a.sheet.filled ≤ b.sheet.filled
   rows_grow a b c m = omega (arith, rows_length a, rows_length b, ap (λ (s : State). length s.rows) m.state, (step_grows (mean a.tariff) (opening_of a) (state_of a) c).rows)
 
@@ -67,22 +63,15 @@ module _ {T : Type 0} (mean : T → Tariff) where
 
   pub follows_none : (a : Account T) → Follows mean a a []
   follows_none a = record {
-    lawful = λ h e. lawful_at (mean a.tariff) (opening_of a) h a e;
+    lawful = λ h l. l;
     same = record { opening = refl; tariff = refl; sheet_past = refl; journal_past = refl };
   }
 
   pub follows_more : (a b d : Account T) (cs : List Call) (c : Call) → Follows mean a b cs → Moved mean b d c → Follows mean a d (cs ++ (c ∷ []))
-  unfolding after
   follows_more a b d cs c f m =
-      let t = mean a.tariff in
-      let o = opening_of a in
       record {
-        lawful = λ h e. lawful_at t o (onto h (cs ++ (c ∷ []))) d
-            (m.state
-            ∙ ap (λ (x : Tariff). (step x (opening_of b) (state_of b) c).1) f.same.tariff
-            ∙ ap (λ (x : Opening). (step t x (state_of b) c).1) f.same.opening
-            ∙ ap (λ (s : State). (step t o s c).1) (f.lawful h e).state
-            ∙ ap (after t o) (sym (onto_push h cs c)));
+        lawful = λ h l. subst (λ k. Keeps mean k d) (sym (onto_push h cs c))
+            (kept_by mean b d (c ∷ onto h cs) _ (law_step (mean b.tariff) (opening_of b) (onto h cs) (state_of b) c (f.lawful h l)).0 m.state m.same);
         same = record {
           opening = m.same.opening ∙ f.same.opening;
           tariff = m.same.tariff ∙ f.same.tariff;
@@ -94,10 +83,8 @@ module _ {T : Type 0} (mean : T → Tariff) where
   -- an account just opened follows the empty run
   pub opened_follows : (a b : Account T) (t : T) (day : ℕ) (sheet : List figures-row.Row) (journal : List figures-line.Line) (cs : List Call) → Opened mean a t day sheet journal → Follows mean a b cs → KeepsLaw mean (mean t) day sheet journal cs b
   opened_follows a b t day sheet journal cs o f =
-      let P : Tariff → Opening → Type 0 = λ x y. Lawful x y (onto [] cs) b in
-      let start : state_of a ≡ after (mean a.tariff) (opening_of a) [] = o.lawful.state ∙ ap (λ (x : T). after (mean x) (opened_over day sheet journal) []) (sym o.tariff) ∙ ap (λ (x : Opening). after (mean a.tariff) x []) (sym o.opening) in
       record {
-        lawful = subst (P (mean t)) o.opening (subst (λ (x : T). P (mean x) (opening_of a)) o.tariff (f.lawful [] start));
+        lawful = f.lawful [] o.law;
         opening = f.same.opening ∙ o.opening;
         tariff = f.same.tariff ∙ ap mean o.tariff;
         sheet_past = f.same.sheet_past ∙ ap (drop b.sheet.filled) o.rows;

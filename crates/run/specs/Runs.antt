@@ -2,13 +2,13 @@
 use Rattle.std.specs.Prelude.{◌≡◌, ℕ, List, [], ◌∷◌, drop}
 use Rattle.rules.specs.Subject as rules
 use Rattle.rules.specs.Subject.{Tariff, Method, Call}
-use Rattle.rules.specs.Machine.{step, after}
+use Rattle.rules.specs.Machine.{step}
 use Rattle.figures.specs.View.{reading_of}
 use Rattle.figures.specs.declared.row.Row.{Row}
 use Rattle.figures.specs.declared.line.Line.{Line}
 use Rattle.method.specs.Uses.{finding_of}
 use Rattle.account.specs.declared.account.Account.{Account}
-use Rattle.account.specs.State.{state_of, opening_of, Same, Lawful, opened_over}
+use Rattle.account.specs.State.{state_of, opening_of, Same, Keeps, opened_over}
 use Rattle.run.specs.declared.ask.Ask.{Ask}
 use Rattle.run.specs.declared.ask.Ask.TheVariants.{Take, HandBack, Bill, Estimate, Correct, Pay}
 
@@ -31,15 +31,15 @@ abbrev pub onto : List Call → List Call → List Call
 onto h [] = h
 onto h (c ∷ cs) = onto (c ∷ h) cs
 
--- calls made: where a follows a run, b follows and keeps the law of the run with these calls after it
+-- calls made: where a keeps the law of a history, b keeps the law of the history with these calls after it
 pub record Follows {T : Type 0} (mean : T → Tariff) (a b : Account T) (cs : List Call) : Type 0 where
-  pub lawful : (h : List Call) → state_of a ≡ after (mean a.tariff) (opening_of a) h → Lawful (mean a.tariff) (opening_of a) (onto h cs) b
+  pub lawful : (h : List Call) → Keeps mean h a → Keeps mean (onto h cs) b
   pub same : Same mean a b
 
--- from the opening to the end: opened on a day over this memory, the account follows these calls and keeps their law; its tariff
+-- from the opening to the end: opened on a day over this memory, the account keeps the law of these calls; its tariff
 -- means t, and memory past the filled parts is as it was lent
 pub record KeepsLaw {T : Type 0} (mean : T → Tariff) (t : Tariff) (day : ℕ) (sheet : List Row) (journal : List Line) (cs : List Call) (a : Account T) : Type 0 where
-  pub lawful : Lawful t (opened_over day sheet journal) (onto [] cs) a
+  pub lawful : Keeps mean (onto [] cs) a
   pub opening : opening_of a ≡ opened_over day sheet journal
   pub tariff : mean a.tariff ≡ t
   pub sheet_past : drop a.sheet.filled a.sheet.memory.now ≡ drop a.sheet.filled sheet

@@ -2,13 +2,13 @@
 use Rattle.std.specs.Prelude.{◌≡◌, ℕ, Bool, ◌&&◌, List, [], ◌∷◌, ◌++◌, length, nat_le}
 use Rattle.rules.specs.Subject.{Tariff, Opening}
 use Rattle.rules.specs.Questions.{is_day}
-use Rattle.rules.specs.Shown.{Shown}
+use Rattle.rules.specs.Shown.{State}
 use Rattle.rules.specs.Law.{Law}
 use Rattle.tariff.specs.Hotel.{numbered}
 use Rattle.events.specs.Lines.{lines}
 use Rattle.page.specs.Writes.{padded}
 use Rattle.page.specs.Answered.{Answered}
-use Rattle.statements.specs.Statement.{calls, replies, shown_text, result_text}
+use Rattle.statements.specs.Statement.{calls, replies, account_text, result_text}
 
 -- an account that opens on this day, with room for 120 rows and 1,024 lines
 abbrev pub opened_on : (day : ℕ) → Opening
@@ -38,6 +38,6 @@ StatedFor tariff day text before left number value = Stated (numbered tariff) (o
 
 -- the account that the page shows keeps the law over the calls that the text makes
 pub record LawfulPage (t : Tariff) (o : Opening) (text page : List ℕ) : Type 0 where
-  pub account : Shown
+  pub account : State
   pub law : Law t o (calls o [] (lines text)) account
-  pub shows : page ≡ padded (length page) (replies t o [] (lines text) ++ shown_text account)
+  pub shows : page ≡ padded (length page) (replies t o [] (lines text) ++ account_text account.lines account.balance account.due)

@@ -1,10 +1,9 @@
 // The result written on the page: an answer for every line of the text, and then what the account shows.
 ghost use Rattle.std.specs.Prelude.{◌≡◌, [], length, OnOk};
-ghost use Rattle.rules.specs.Machine.{after, shown};
-ghost use Rattle.account.specs.State.{state_of, opening_of};
+ghost use Rattle.account.specs.State.{state_of, opening_of, Keeps};
 ghost use Rattle.events.specs.Lines.{lines};
 ghost use Rattle.page.specs.Writes.{Wrote, fitted, padded};
-ghost use Rattle.statements.specs.Statement.{shown_text, result_text};
+ghost use Rattle.statements.specs.Statement.{account_text, result_text};
 
 use crate::entries::{answer, journal, sums};
 use account::account::Account;
@@ -15,7 +14,7 @@ use tariff::tariff::Tariff;
 
 /// Writes every line of the journal, and the sums.
 fn show<T>(account: &Account<T>, page: &mut Page) -> Result<(), Full>
-    ensures { Wrote page.old page.new result (shown_text (shown (state_of account.now))) }
+    ensures { Wrote page.old page.new result (account_text (state_of account.now).lines (state_of account.now).balance (state_of account.now).due) }
 {
     for line in account.lines() {
         journal(page, *line)?;
@@ -29,7 +28,7 @@ pub(crate) fn write<T: Tariff>(
     text: &[u8],
     page: &mut [u8],
 ) -> Result<usize, Full>
-    requires { state_of account.old ≡ after (T.Tariff.meaning account.old.tariff) (opening_of account.old) [] }
+    requires { Keeps T.Tariff.meaning [] account.old }
     ensures value { result ≡ fitted (length page.old) (result_text (T.Tariff.meaning account.old.tariff) (opening_of account.old) (lines text.now)) }
     ensures after { OnOk result (page.new ≡ padded (length page.old) (result_text (T.Tariff.meaning account.old.tariff) (opening_of account.old) (lines text.now))) }
 {

@@ -1,0 +1,99 @@
+-- What each call lays down, between the periods before it and those after it. Assumes nothing.
+use Rattle.std.specs.Prelude.{◌≡◌, ℕ, ◌+◌, ◌-◌, ◌<◌, ◌≤◌, Bool, true, false, not, ◌&&◌, ◌||◌, List, [], ◌∷◌, ◌++◌, map, length, take as first_of_list, drop, filter, slice_get, ◌==◌, nat_le}
+use Rattle.rules.specs.Subject.{zeros, day_units, peak_units, read, estimated, no_energy, Period, days, is_estimated, Finding, Method, Call, take, hand_back, bill, estimate, correct, pay, Opening}
+use Rattle.rules.specs.Sharing.{whole, shares}
+use Rattle.rules.specs.Laid.{next_day}
+use Rattle.rules.specs.Questions.{is_absent, row_is}
+use Rattle.rules.specs.Owed.{billed}
+
+-- the estimates accepted since the last accepted bill
+abbrev pub estimates_since_bill : List Call → ℕ
+estimates_since_bill [] = 0
+estimates_since_bill (bill hold last r ∷ calls) = 0
+estimates_since_bill (estimate hold last m ∷ calls) = estimates_since_bill calls + 1
+estimates_since_bill (c ∷ calls) = estimates_since_bill calls
+
+-- the method's share for a period alone, and its demand
+pub record SharedAlone (m : Method) (p : Period) : Type 0 where
+  pub sort : p.sort ≡ estimated
+  pub day : p.standing.day ≡ whole (m.upper day_units) m.lower (m.weight day_units (days p) p.recorded)
+  pub peak : p.standing.peak ≡ whole (m.upper peak_units) m.lower (m.weight peak_units (days p) p.recorded)
+  pub demand : p.standing.demand ≡ m.demand (days p) p.recorded
+
+-- a period without energy
+pub record WithoutEnergy (p : Period) : Type 0 where
+  pub sort : p.sort ≡ no_energy
+  pub standing : p.standing ≡ zeros
+
+-- one period more, on which nothing was recorded: shared alone for the first six estimates since a bill, and without energy from the seventh on
+pub record Unread (first until estimates : ℕ) (m : Method) (old new : List Period) : Type 0 where
+  pub period : Period
+  pub added : new ≡ old ++ (period ∷ [])
+  pub begins : period.first ≡ first
+  pub ends : period.last ≡ until
+  pub recorded : period.recorded ≡ zeros
+  pub six : estimates < 6 → SharedAlone m period
+  pub seventh : 6 ≤ estimates → WithoutEnergy period
+
+-- the rows of a finding's span, and of them those that it lays down anew: for the cause absent the estimated ones
+abbrev pub span_of : Finding → List Period → List Period
+span_of f ps = first_of_list (f.last + 1 - f.first) (drop f.first ps)
+
+abbrev pub laid_anew : Finding → List Period → List Period
+laid_anew f ps = filter (λ p. not (is_absent f.cause) || is_estimated p.sort) (span_of f ps)
+
+-- a row is one of them
+abbrev pub lays_anew : Finding → List Period → (row : ℕ) → Bool
+lays_anew f ps row =
+    (nat_le f.first row && nat_le row f.last) && (not (is_absent f.cause) || row_is (λ p. is_estimated p.sort) ps row)
+
+-- a period without what stands for it: its days, its sort and what was recorded
+abbrev pub without_standing : Period → Period
+without_standing p = record { first = p.first; last = p.last; sort = p.sort; recorded = p.recorded; standing = zeros }
+
+-- a correction: of the rows laid down anew the units are the shares of their weights, and each demand is the method's; the days, sort and
+-- recorded registers of every row and everything of the other rows are kept
+pub record Relaid (f : Finding) (m : Method) (old new : List Period) : Type 0 where
+  pub day : map (λ p. p.standing.day) (laid_anew f new) ≡ shares (m.upper day_units) m.lower 0 (map (λ p. m.weight day_units (days p) p.recorded) (laid_anew f old))
+  pub peak : map (λ p. p.standing.peak) (laid_anew f new) ≡ shares (m.upper peak_units) m.lower 0 (map (λ p. m.weight peak_units (days p) p.recorded) (laid_anew f old))
+  pub demand : map (λ p. p.standing.demand) (laid_anew f new) ≡ map (λ p. m.demand (days p) p.recorded) (laid_anew f old)
+  pub kept : map without_standing new ≡ map without_standing old
+  pub others : (row : ℕ) → lays_anew f old row ≡ false → slice_get new row ≡ slice_get old row
+
+-- what a call lays down, where the calls before it gave the periods old
+abbrev pub LaysDown : Opening → Call → (before : List Call) → (old new : List Period) → Type 0
+LaysDown o (take now length) before old new = new ≡ old
+LaysDown o (hand_back hold) before old new = new ≡ old
+LaysDown o (bill hold last r) before old new =
+    new ≡ old ++ (record { first = next_day o.day old; last = last; sort = read; recorded = r; standing = r } ∷ [])
+LaysDown o (estimate hold last m) before old new = Unread (next_day o.day old) last (estimates_since_bill before) m old new
+LaysDown o (correct hold f m) before old new = Relaid f m old new
+LaysDown o (pay hold cents) before old new = new ≡ old
+
+-- the same of an accepted call and the accepted calls before it
+abbrev pub Lays : Opening → Call → List Call → Type 0
+Lays o c before = LaysDown o c before (billed o before) (billed o (c ∷ before))
+
+-- a call lays registers down for a row: a bill or an estimate for the one that it adds, a correction for those of its span
+abbrev pub lays_for : Opening → Call → List Call → (row : ℕ) → Bool
+lays_for o (take now length) before row = false
+lays_for o (hand_back hold) before row = false
+lays_for o (bill hold last r) before row = row == length (billed o before)
+lays_for o (estimate hold last m) before row = row == length (billed o before)
+lays_for o (correct hold f m) before row = lays_anew f (billed o before) row
+lays_for o (pay hold cents) before row = false
+
+-- of the calls later, which came after those before, none lays any down for the row
+abbrev pub NoneLays : Opening → (row : ℕ) → (later before : List Call) → Type 0
+NoneLays o row [] before = Unit
+NoneLays o row (c ∷ later) before = (lays_for o c (later ++ before) row ≡ false) × NoneLays o row later before
+
+-- a row stands as the newest accepted call that laid any registers down for it left it
+pub record StandsAsLaid (o : Opening) (calls : List Call) (row : ℕ) : Type 0 where
+  pub later : List Call
+  pub call : Call
+  pub before : List Call
+  pub split : calls ≡ later ++ (call ∷ before)
+  pub lays : lays_for o call before row ≡ true
+  pub since : NoneLays o row later (call ∷ before)
+  pub stands : slice_get (billed o calls) row ≡ slice_get (billed o (call ∷ before)) row

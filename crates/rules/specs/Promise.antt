@@ -1,0 +1,12 @@
+-- What every account promises. Assumes nothing.
+use Rattle.std.specs.Prelude.{◌≡◌, List, [], ◌∷◌}
+use Rattle.rules.specs.Subject.{Tariff, Call, Opening}
+use Rattle.rules.specs.Shown.{State}
+use Rattle.rules.specs.Law.{Law, answer_to}
+use Rattle.rules.specs.Machine.{opened, step}
+
+-- the theorem: an account just opened keeps the law of no calls; and where one keeps the law of a history, it keeps after a call the law of
+-- the history with that call, which is answered as the history has it
+pub record AccountLaw : Type 0 where
+  pub opened_keeps : (t : Tariff) (o : Opening) → Law t o [] opened
+  pub call_keeps : (t : Tariff) (o : Opening) (h : List Call) (s : State) (c : Call) → Law t o h s → Law t o (c ∷ h) (step t o s c).1 × ((step t o s c).0 ≡ answer_to t o h c)
