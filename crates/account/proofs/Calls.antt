@@ -97,7 +97,7 @@ module _ {T : Type 0} (mean : T → Tariff) where
         record {
           answer = sym (ap (λ (r : Answer × State). r.0) s);
           state = sym (ap (λ (r : Answer × State). r.1) s);
-          same = record { opening = refl; tariff = refl; sheet_past = refl; journal_past = refl };
+          same = record { opening = refl; tariff = refl; sheet_past = refl; journal_past = refl; memory = record { sheet = refl; journal = refl } };
           unasked = λ k. refl;
         }
 
@@ -195,7 +195,7 @@ module _ {T : Type 0} (mean : T → Tariff) (a b : Account T) (rows : List show.
         accepted = q;
         value = w;
         state = changed_state ∙ e;
-        same = record { opening = changed_opening; tariff = h.tariff; sheet_past = h.sheet_past; journal_past = h.journal.past };
+        same = record { opening = changed_opening; tariff = h.tariff; sheet_past = h.sheet_past; journal_past = h.journal.past; memory = h.memory };
       }) in
       (s, lawful mean a b c _ s)
 

@@ -1,12 +1,15 @@
 -- What a correction rests on. Assumes nothing.
-use Rattle.std.proofs.Common.{◌≡◌, ℕ, ◌+◌, ◌<◌, ◌≤◌, true, ltb, leb, length, ℤ, sym, refl, ap, ◌∙◌, ap₂, arith}
+use Rattle.std.proofs.Common.{◌≡◌, ℕ, ◌+◌, ◌<◌, ◌≤◌, true, ltb, leb, List, map, length, ℤ, sym, refl, ap, ◌∙◌, ap₂, arith}
 use Rattle.std.proofs.lemmas.Bool.{and_parts, leb-true, ltb-true}
 use Rattle.rules.specs.Subject.{Tariff, Opening, Finding, Method, correct}
-use Rattle.rules.specs.Laid.{rewritten, corrected}
+use Rattle.rules.specs.Laid.{six_at_most, rewritten, corrected}
 use Rattle.rules.specs.Questions.{question, asked, all_fit, bills}
+use Rattle.rules.specs.Shown as show
 use Rattle.rules.specs.Journal.{cents_of}
-use Rattle.rules.specs.Machine.{periods_of, view, relay, posts, effect}
-use Rattle.rules.proofs.Runs.{length-posts}
+use Rattle.rules.specs.Machine.{period_of, periods_of, view, relay, posts, effect}
+use Rattle.rules.proofs.Runs.{length-posts, relay_periods}
+use Rattle.rules.proofs.Spans.{six_corrected, rows_few}
+use Rattle.rules.proofs.Dues.{bills_limit}
 use Rattle.book.specs.Pages.{Pages, pages_of}
 use Rattle.figures.specs.declared.line.Line.{Line}
 use Rattle.sheet.specs.Lines.{Grown}
@@ -21,6 +24,8 @@ pub record Correctable {T : Type 0} (a : Account T) (f : Finding) (m : Method) :
   pub ordered : f.first ≤ f.last
   pub billed : f.last < a.sheet.filled
   pub fits : all_fit (rewritten f 0 (corrected f m 0 0 0 (periods_of (state_of a)))) ≡ true
+  pub few : length (rewritten f 0 (periods_of (state_of a))) ≤ 12
+  pub bills : bills f ≤ 12
   pub room : a.journal.filled + length (rewritten f 0 (periods_of (state_of a))) ≤ a.journal.limit
 
 pub correct_yes : {T : Type 0} (a : Account T) (hold : ℕ) (f : Finding) (m : Method) → question (opening_of a) (view (state_of a)) (correct hold f m) ≡ 0 → Correctable a f m
@@ -32,6 +37,8 @@ correct_yes a hold f m e =
       ordered = leb-true _ _ five.0;
       billed = omega (arith, ltb-true _ _ five.1, periods_length a);
       fits = y.1.1.1.1.1.1.0;
+      few = rows_few f (periods_of (state_of a)) y.1.1.1.0 y.1.1.1.1.0 a.runs;
+      bills = bills_limit f.cause f.side f (periods_of (state_of a)) y.1.1.1.1.0;
       room = omega (arith, leb-true _ _ (sym (room_said a (length (rewritten f 0 (periods_of (state_of a))))) ∙ y.1.1.1.1.1.1.1.0));
     }
 
@@ -43,6 +50,13 @@ unfolding effect
 corrected_is t o a hold hold' f m u n lines h e k =
     ap₂ (λ x y. made a (relay t f m 0 0 0 (state_of a).rows) (posts t f m hold 0 0 0 (state_of a).rows) (corrected_by (totals a.sums) x y lines)) e k
     ∙ ap (λ z. made a (relay t f m 0 0 0 (state_of a).rows) (posts t f m z 0 0 0 (state_of a).rows) (corrected_by (totals a.sums) (cents_of (posts t f m z 0 0 0 (state_of a).rows)) (bills f) lines)) h
+
+-- its runs have still six estimated rows at most
+pub runs_relaid : {T : Type 0} (a : Account T) (new : List show.Row) (t : Tariff) (f : Finding) (m : Method) → new ≡ relay t f m 0 0 0 (state_of a).rows → six_at_most 0 (map period_of new) ≡ true
+runs_relaid a new t f m e =
+    ap (λ rs. six_at_most 0 (map period_of rs)) e
+    ∙ ap (six_at_most 0) (relay_periods t f m 0 0 0 (state_of a).rows)
+    ∙ six_corrected f m 0 0 0 0 (periods_of (state_of a)) a.runs
 
 -- the lines that a correction adds have their places
 pub record Added {T : Type 0} (a : Account T) (q : Pages Line) (k : ℕ) : Type 0 where

@@ -1,11 +1,12 @@
 -- Rows entered into the sheet. Assumes nothing.
-use Rattle.std.proofs.Common.{◌≡◌, ℕ, ◌+◌, ◌-◌, ◌<◌, ◌≤◌, List, [], ◌∷◌, ◌++◌, map, length, get_or, take, drop, ℤ, pos, Some, sym, refl, ap, ◌∙◌, ap₂, arith}
+use Rattle.std.proofs.Common.{◌≡◌, ℕ, ◌+◌, ◌-◌, ◌<◌, ◌≤◌, true, List, [], ◌∷◌, ◌++◌, map, length, get_or, take, drop, ℤ, pos, Some, sym, refl, ap, ◌∙◌, ap₂, arith}
 use Rattle.std.proofs.lemmas.List.{take_all, take_more, take_more_set, map_push, length-set, drop-set-lt}
 use Rattle.rules.specs.Shown.{State}
 use Rattle.rules.specs.Subject.{Registers, Period, Tariff, charge_on}
-use Rattle.rules.specs.Laid.{next_day, metered}
+use Rattle.rules.specs.Laid.{next_day, run, may_stand, six_at_most, metered}
 use Rattle.rules.specs.Shown as show
 use Rattle.rules.specs.Machine.{period_of, bill_row}
+use Rattle.rules.proofs.Spans.{six_push}
 use Rattle.book.specs.Pages.{Pages, pages_of, written}
 use Rattle.figures.specs.View.{seen, period_seen}
 use Rattle.figures.specs.declared.row.Row.{Row}
@@ -33,6 +34,10 @@ next_is d rows x one read =
 -- one row more
 pub rows_more : (p q : Pages Row) (x : Row) → p.filled < length p.memory → q ≡ written p x → rows_of q ≡ rows_of p ++ (seen x ∷ [])
 rows_more p q x h e = ap rows_of e ∙ ap (map seen) (take_more_set p.memory p.filled x h) ∙ map_push seen (take p.filled p.memory) x
+
+-- its run has still six estimated ones at most
+pub runs_more : (old new : List show.Row) (r : show.Row) → new ≡ old ++ (r ∷ []) → six_at_most 0 (map period_of old) ≡ true → may_stand (run (map period_of old)) r.period ≡ true → six_at_most 0 (map period_of new) ≡ true
+runs_more old new r e s h = ap (λ rs. six_at_most 0 (map period_of rs)) e ∙ ap (six_at_most 0) (map_push period_of old r) ∙ six_push 0 (map period_of old) r.period s h
 
 pub size_more : {X : Type 0} (p q : Pages X) (x : X) → q ≡ written p x → length q.memory ≡ length p.memory
 size_more p q x e = ap (λ z. length z.memory) e ∙ length-set p.memory p.filled x

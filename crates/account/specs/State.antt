@@ -1,11 +1,12 @@
 -- The account as the rules have it, and what every call promises. Assumes nothing.
 use Rattle.std.specs.Prelude.{◌≡◌, ℕ, ◌≤◌, List, [], ◌∷◌, map, length, drop, Some, None, Option}
+use Rattle.std.specs.Borrow.{MutBor}
 use Rattle.rules.specs.Subject.{Tariff, Call, Opening}
 use Rattle.rules.specs.Questions as rules
 use Rattle.rules.specs.Shown.{Answer, State}
 use Rattle.rules.specs.Law.{Law, answer_to}
 use Rattle.rules.specs.Machine.{step}
-use Rattle.book.specs.Pages.{pages_of}
+use Rattle.book.specs.Pages.{pages_of, OneMemory}
 use Rattle.figures.specs.declared.row.Row.{Row}
 use Rattle.figures.specs.declared.line.Line.{Line}
 use Rattle.sheet.specs.Lines.{lines_of}
@@ -33,12 +34,18 @@ state_of a = record {
 abbrev pub opening_of : {T : Type 0} → Account T → Opening
 opening_of a = record { day = a.opening.figure; sheet = length a.sheet.memory.now; journal = length a.journal.memory.now }
 
--- b is an account as a was opened, its tariff means what a's did, and memory past the filled parts is as it was
+-- b is over the very memory that a was lent
+pub record OverTheSame {T : Type 0} (a b : Account T) : Type 0 where
+  pub sheet : OneMemory a.sheet b.sheet
+  pub journal : OneMemory a.journal b.journal
+
+-- b is an account as a was opened, its tariff means what a's did, and it is over the same memory, which past the filled parts is as it was
 pub record Same {T : Type 0} (mean : T → Tariff) (a b : Account T) : Type 0 where
   pub opening : opening_of b ≡ opening_of a
   pub tariff : mean b.tariff ≡ mean a.tariff
   pub sheet_past : drop b.sheet.filled b.sheet.memory.now ≡ drop b.sheet.filled a.sheet.memory.now
   pub journal_past : drop b.journal.filled b.journal.memory.now ≡ drop b.journal.filled a.journal.memory.now
+  pub memory : OverTheSame a b
 
 -- the answer and the whole state after a call are those of the step; a refused call does not even ask the tariff
 pub record Stepped {T : Type 0} (mean : T → Tariff) (a b : Account T) (c : Call) (r : Answer) : Type 0 where
@@ -67,3 +74,8 @@ pub record Opened {T : Type 0} (mean : T → Tariff) (a : Account T) (t : T) (da
   pub opening : opening_of a ≡ opened_over day sheet journal
   pub rows : a.sheet.memory.now ≡ sheet
   pub lines : a.journal.memory.now ≡ journal
+
+-- it is over the very slices that it was lent
+pub record OverSlices {T : Type 0} (a : Account T) (sheet : MutBor (List Row)) (journal : MutBor (List Line)) : Type 0 where
+  pub rows : a.sheet.memory.ghost_name ≡ sheet.ghost_name
+  pub lines : a.journal.memory.ghost_name ≡ journal.ghost_name

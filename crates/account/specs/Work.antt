@@ -7,6 +7,7 @@ use Rattle.sheet.specs.Lines.{Grown}
 use Rattle.sheet.specs.Rows.{rows_of}
 use Rattle.sums.specs.View.{Totals, totals}
 use Rattle.account.specs.declared.account.Account.{Account}
+use Rattle.account.specs.State.{OverTheSame}
 
 -- sheet and journal each have a place
 pub record Roomy {T : Type 0} (a : Account T) : Type 0 where
@@ -24,3 +25,4 @@ pub record Changed {T : Type 0} (mean : T → Tariff) (a b : Account T) (rs : Li
   pub sheet_past : drop b.sheet.filled b.sheet.memory.now ≡ drop b.sheet.filled a.sheet.memory.now
   pub journal : Grown (pages_of a.journal) (pages_of b.journal) ls
   pub sums : totals b.sums ≡ t
+  pub memory : OverTheSame a b

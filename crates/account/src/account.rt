@@ -1,5 +1,8 @@
 // The account: its tariff, its holds, its sums, its sheet and its journal.
-ghost use Rattle.std.specs.Prelude.{◌≡◌, min, length};
+ghost use Rattle.std.specs.Prelude.{◌≡◌, min, length, true};
+ghost use Rattle.rules.specs.Laid.{six_at_most};
+ghost use Rattle.book.specs.Pages.{pages_of};
+ghost use Rattle.sheet.specs.Rows.{filled_periods};
 
 use book::kept::Book;
 use figures::dates::Day;
@@ -14,8 +17,9 @@ pub struct Hold {
     pub until: u64,
 }
 
-/// The sums hold what the journal's lines moved, so each is small while the journal is. Each of the calls takes by name what a
-/// clerk's call carries: a struct of hold, finding or method would be made for one call and taken apart in it.
+/// The sums hold what the journal's lines moved, so each is small while the journal is. At most six rows of an unmetered run are
+/// estimated, so no correction rewrites more than twelve. Each of the calls takes by name what a clerk's call carries: a struct of
+/// hold, finding or method would be made for one call and taken apart in it.
 #[derive(Drop)]
 pub struct Account<'a, T> {
     pub(crate) tariff: T,
@@ -28,4 +32,5 @@ pub struct Account<'a, T> {
     ghost sheet_limit: { sheet.limit ≡ min (length sheet.memory.now) 120 },
     ghost journal_limit: { journal.limit ≡ min (length journal.memory.now) 1024 },
     ghost counted: { sums.lines ≡ journal.filled },
+    ghost runs: { six_at_most 0 (filled_periods (pages_of sheet)) ≡ true },
 }

@@ -22,7 +22,7 @@ use tariff::tariff::Tariff;
 
 /// Over how many bills an undercharge is spread.
 fn bills(f: Finding) -> Bills
-    requires { (f.span.first ≤ f.span.last) × (f.span.last < 1000) }
+    requires { (f.span.first ≤ f.span.last) × (f.span.last < 1000) × (bills_of (finding_of f) ≤ 12) }
     ensures { result.count ≡ bills_of (finding_of f) }
 {
     let count = match f.cause {

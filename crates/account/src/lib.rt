@@ -7,6 +7,7 @@ pub mod billing;
 pub mod correcting;
 pub mod estimating;
 pub mod holding;
+pub mod memory;
 pub mod opening;
 pub mod paying;
 pub mod refusal;

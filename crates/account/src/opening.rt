@@ -1,18 +1,20 @@
 // The opening, and what an account shows.
-ghost use Rattle.std.specs.Prelude.{◌≡◌, map, pos};
+ghost use Rattle.std.specs.Prelude.{◌≡◌, map, pos, OnErr};
 ghost use Rattle.rules.specs.Questions.{first_no, opening_asked};
 ghost use Rattle.figures.specs.View.{seen, line_seen};
 ghost use Rattle.sums.specs.Bounds.{seen as instalment_seen};
-ghost use Rattle.account.specs.State.{hold_of, state_of, Opened};
+ghost use Rattle.account.specs.State.{hold_of, state_of, Opened, OverSlices};
 ghost use Rattle.account.specs.Answers.{opened_answer, Asked};
 
 use crate::account::{Account, Hold};
+use crate::memory::Memory;
 use crate::refusal::Refusal;
 use book::kept::Book;
 use figures::dates::Day;
 use figures::line::Line;
 use figures::money::Money;
 use figures::row::Row;
+use std::mem;
 use sums::coming::Coming;
 use sums::sums::Sums;
 use tariff::tariff::Tariff;
@@ -23,23 +25,18 @@ const ROWS: usize = 120;
 const LINES: usize = 1024;
 
 impl<'a, T: Tariff> Account<'a, T> {
-    /// An account that opens on `day`, over a memory for its rows and one for its lines, lent apart since either may be as large
-    /// as the caller likes.
-    pub fn open(
-        tariff: T,
-        day: u64,
-        sheet: &'a mut [Row],
-        journal: &'a mut [Line],
-    ) -> Result<Account<'a, T>, Refusal>
+    /// An account that opens on `day`, over a memory. A refused opening leaves the memory as it is.
+    pub fn open(tariff: T, day: u64, memory: &mut Memory<'a>) -> Result<Account<'a, T>, Refusal>
     where
         T: Drop,
         ensures answer { opened_answer result ≡ record { number = first_no (opening_asked day); value = pos 0 } }
-        ensures made { Asked (first_no (opening_asked day)) (λ a. Opened T.Tariff.meaning a tariff day sheet.old journal.old) result }
+        ensures made { Asked (first_no (opening_asked day)) (λ a. Opened T.Tariff.meaning a tariff day memory.old.sheet.now memory.old.journal.now × OverSlices a memory.old.sheet memory.old.journal) result }
+        ensures unchanged { OnErr result (memory.new ≡ memory.old) }
     {
         let opening = Day::new(day)?;
         let sums = Sums::new();
-        let sheet = Book::new(sheet, ROWS);
-        let journal = Book::new(journal, LINES);
+        let sheet = Book::new(mem::take(&mut memory.sheet), ROWS);
+        let journal = Book::new(mem::take(&mut memory.journal), LINES);
         Ok(Account {
             tariff,
             opening,
@@ -49,6 +46,23 @@ impl<'a, T: Tariff> Account<'a, T> {
             sheet,
             journal,
         })
+    }
+
+    /// Ends the account: the memory that it was lent, as it leaves it.
+    pub fn close(self, memory: &mut Memory<'a>)
+    where
+        T: Drop,
+        ensures sheet { memory.new.sheet ≡ self.entry.sheet.memory }
+        ensures journal { memory.new.journal ≡ self.entry.journal.memory }
+    {
+        let Account {
+            tariff: _tariff,
+            sheet,
+            journal,
+            ..
+        } = self;
+        memory.sheet = sheet.memory;
+        memory.journal = journal.memory;
     }
 }
 

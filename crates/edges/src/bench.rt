@@ -1,5 +1,6 @@
 // What the tests share: memory to lend, a tariff, meters, and tables of lines with what they are answered.
 use account::account::Account;
+use account::memory::Memory as Lent;
 use account::refusal::Refusal;
 use desk::fault::Fault;
 use desk::serving::serve;
@@ -57,7 +58,11 @@ impl<const ROWS: usize, const LINES: usize> Memory<ROWS, LINES> {
         tariff: T,
         day: u64,
     ) -> Account<'_, T> {
-        Account::open(tariff, day, &mut self.sheet, &mut self.journal)
+        let mut lent = Lent {
+            sheet: &mut self.sheet,
+            journal: &mut self.journal,
+        };
+        Account::open(tariff, day, &mut lent)
             .ok()
             .expect(rt, "not opened")
     }

@@ -41,7 +41,11 @@ fn the_last_day(rt: HostRuntime) {
 
 /// The number of the answer where an account opens on `day`.
 fn opened_on(tariff: impl Tariff + Drop, day: u64) -> u32 {
-    number(Account::open(tariff, day, &mut [BLANK; 1], &mut [EMPTY; 1]))
+    let mut memory = account::memory::Memory {
+        sheet: &mut [BLANK; 1],
+        journal: &mut [EMPTY; 1],
+    };
+    number(Account::open(tariff, day, &mut memory))
 }
 
 #[test]

@@ -32,7 +32,7 @@ due_next t o b (correct hold f m ∷ before) =
 due_next t o b (pay hold cents ∷ before) = due_next t o b before
 
 -- no undercharge is spread over more than twelve bills
-bills_limit : (c : Cause) (s : Side) (f : Finding) (ps : List Period) → span_right c s f ps ≡ true → bills_of c (size f) ≤ 12
+pub bills_limit : (c : Cause) (s : Side) (f : Finding) (ps : List Period) → span_right c s f ps ≡ true → bills_of c (size f) ≤ 12
 bills_limit absent s f ps h = omega arith
 bills_limit under consumer f ps h = omega (arith, eqb-true (size f) 1 (and_parts (eqb (size f) 1) (row_is (has_day f.notice) ps f.first) h).0)
 bills_limit under supplier f ps h = omega (arith, leb-true (size f) 3 (and_parts (leb (size f) 3) (row_is (has_day f.notice) ps f.first) h).0)

@@ -38,7 +38,7 @@ clash over h k = false≢true h
 clash stopped h k = false≢true h
 clash altered h k = false≢true h
 
-or_then : (a b : Bool) → (not a || b) ≡ true → a ≡ true → b ≡ true
+pub or_then : (a b : Bool) → (not a || b) ≡ true → a ≡ true → b ≡ true
 or_then true b h e = h
 or_then false b h e = absurd (false≢true e)
 

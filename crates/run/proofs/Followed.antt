@@ -64,7 +64,7 @@ module _ {T : Type 0} (mean : T → Tariff) where
   pub follows_none : (a : Account T) → Follows mean a a []
   follows_none a = record {
     lawful = λ h l. l;
-    same = record { opening = refl; tariff = refl; sheet_past = refl; journal_past = refl };
+    same = record { opening = refl; tariff = refl; sheet_past = refl; journal_past = refl; memory = record { sheet = refl; journal = refl } };
   }
 
   pub follows_more : (a b d : Account T) (cs : List Call) (c : Call) → Follows mean a b cs → Moved mean b d c → Follows mean a d (cs ++ (c ∷ []))
@@ -77,6 +77,7 @@ module _ {T : Type 0} (mean : T → Tariff) where
           tariff = m.same.tariff ∙ f.same.tariff;
           sheet_past = past_both a.sheet.memory.now b.sheet.memory.now d.sheet.memory.now b.sheet.filled d.sheet.filled (rows_grow b d c m) f.same.sheet_past m.same.sheet_past;
           journal_past = past_both a.journal.memory.now b.journal.memory.now d.journal.memory.now b.journal.filled d.journal.filled (lines_grow b d c m) f.same.journal_past m.same.journal_past;
+          memory = record { sheet = m.same.memory.sheet ∙ f.same.memory.sheet; journal = m.same.memory.journal ∙ f.same.memory.journal };
         };
       }
 

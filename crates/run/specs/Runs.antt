@@ -1,14 +1,20 @@
 -- Whole runs of an account. Assumes nothing.
-use Rattle.std.specs.Prelude.{◌≡◌, ℕ, List, [], ◌∷◌, drop}
+use Rattle.std.specs.Prelude.{◌≡◌, ℕ, ◌≤◌, List, [], ◌∷◌, map, length, take, drop}
 use Rattle.rules.specs.Subject as rules
 use Rattle.rules.specs.Subject.{Tariff, Method, Call}
+use Rattle.rules.specs.Given.{accepted}
+use Rattle.rules.specs.Shown.{State}
+use Rattle.rules.specs.Journal.{takes, standing_hold}
+use Rattle.rules.specs.Law.{Law}
 use Rattle.rules.specs.Machine.{step}
-use Rattle.figures.specs.View.{reading_of}
+use Rattle.figures.specs.View.{reading_of, seen, line_seen}
+use Rattle.sums.specs.Bounds as sums
 use Rattle.figures.specs.declared.row.Row.{Row}
 use Rattle.figures.specs.declared.line.Line.{Line}
 use Rattle.method.specs.Uses.{finding_of}
 use Rattle.account.specs.declared.account.Account.{Account}
 use Rattle.account.specs.State.{state_of, opening_of, Same, Keeps, opened_over}
+use Rattle.run.specs.declared.keep.Kept.{Kept}
 use Rattle.run.specs.declared.ask.Ask.{Ask}
 use Rattle.run.specs.declared.ask.Ask.TheVariants.{Take, HandBack, Bill, Estimate, Correct, Pay}
 
@@ -44,3 +50,28 @@ pub record KeepsLaw {T : Type 0} (mean : T → Tariff) (t : Tariff) (day : ℕ) 
   pub tariff : mean a.tariff ≡ t
   pub sheet_past : drop a.sheet.filled a.sheet.memory.now ≡ drop a.sheet.filled sheet
   pub journal_past : drop a.journal.filled a.journal.memory.now ≡ drop a.journal.filled journal
+
+-- the account that a run leaves: who holds it by the accepted calls, its sums as they are answered, and the filled places of a sheet
+-- and a journal
+abbrev pub left_in : (calls : List Call) → Kept → List Row → List Line → State
+left_in calls k sheet journal = record {
+  granted = takes calls;
+  holding = standing_hold calls;
+  rows = map seen (take k.rows sheet);
+  lines = map line_seen (take k.lines journal);
+  balance = k.balance.0;
+  due = k.due.0;
+  coming = map sums.seen k.coming.places;
+}
+
+-- a run made over a sheet and a journal answered k and left these two lists: what their filled places hold, with the sums, keeps the law
+-- of these calls, and past them stands what stood there
+pub record Left (t : Tariff) (day : ℕ) (sheet : List Row) (journal : List Line) (cs : List Call) (k : Kept) (sheet_left : List Row) (journal_left : List Line) : Type 0 where
+  pub law :
+      let o = opened_over day sheet journal in
+      let history = onto [] cs in
+      Law t o history (left_in (accepted o history) k sheet_left journal_left)
+  pub rows : k.rows ≤ length sheet_left
+  pub lines : k.lines ≤ length journal_left
+  pub sheet_past : drop k.rows sheet_left ≡ drop k.rows sheet
+  pub journal_past : drop k.lines journal_left ≡ drop k.lines journal

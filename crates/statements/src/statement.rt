@@ -11,6 +11,7 @@ ghost use Rattle.statements.specs.Refusals.{number_of};
 use crate::refused::Refused;
 use crate::writing::write;
 use account::account::Account;
+use account::memory::Memory;
 use figures::line::EMPTY;
 use figures::reported::{Kva, OutOfLimits};
 use figures::row::BLANK;
@@ -34,7 +35,11 @@ fn statement_under<T: Tariff + Drop>(
     // arrays as large as an account can use: there is no heap here
     let mut rows = [BLANK; 120];
     let mut journal = [EMPTY; 1024];
-    let Ok(mut account) = Account::open(tariff, opening, &mut rows, &mut journal) else {
+    let mut memory = Memory {
+        sheet: &mut rows,
+        journal: &mut journal,
+    };
+    let Ok(mut account) = Account::open(tariff, opening, &mut memory) else {
         return Err(Refused::Figures);
     };
     if text.is_empty() || text.len() > 65_536 {

@@ -55,7 +55,7 @@ impl Coming {
         requires { Low self.old.places 1024 }
         ensures { map seen self.new.places ≡ spread_of s.cents.0 s.bills.count 1 (map seen self.old.places) }
     {
-        let reached = s.bills.count.min(12) as usize;
+        let reached = s.bills.count as usize;
         for (b, place) in self.places[..reached].iter_mut().enumerate() {
             place.raise(s.instalment(b as u64));
         }

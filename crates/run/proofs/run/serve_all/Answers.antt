@@ -11,7 +11,7 @@ loop-ask-init g c = follows_none g.T.Tariff.meaning c.args.a.now
 pub loop-ask-preserved : goal.loop-ask-preserved
 loop-ask-preserved g c =
     let P : List Call → Type 0 = λ cs. Follows g.T.Tariff.meaning c.args.a.now c.serve.new.a cs in
-    let call = call_of g.M.Method.meaning in
+    let call = call_of g.M.Chosen.means in
     let asks = c.args.asks.now in
     let i = c.loop-ask.ask-index in
     let ask = c.ask-item.result in
@@ -22,4 +22,4 @@ loop-ask-preserved g c =
 pub returns : goal.returns
 returns g c =
     let P : List Call → Type 0 = λ cs. Follows g.T.Tariff.meaning c.args.a.now c.loop-ask.a cs in
-    record { law = subst P (ap (map (call_of g.M.Method.meaning)) (take_all c.loop-ask.ask-index c.args.asks.now c.loop-ask-test.false)) c.loop-ask.invariant }
+    record { law = subst P (ap (map (call_of g.M.Chosen.means)) (take_all c.loop-ask.ask-index c.args.asks.now c.loop-ask-test.false)) c.loop-ask.invariant }

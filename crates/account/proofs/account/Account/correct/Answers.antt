@@ -3,11 +3,12 @@ use Rattle.std.proofs.lemmas.Int.{ints}
 use Rattle.rules.specs.Subject.{correct}
 use Rattle.rules.specs.Journal.{cents_of}
 use Rattle.rules.specs.Machine.{posts}
+use Rattle.rules.proofs.Runs.{length-posts}
 use Rattle.method.specs.Uses.{finding_of}
 use Rattle.sums.specs.View.{Totals}
 use Rattle.account.specs.State.{state_of, opening_of}
 use Rattle.account.proofs.Calls.{refused_by, changed_done, grown_limit}
-use Rattle.account.proofs.Corrections.{correct_yes, corrected_is, added}
+use Rattle.account.proofs.Corrections.{correct_yes, corrected_is, added, runs_relaid}
 use Rattle.account.proofs.account.Account.correct.Goals as goal
 
 pub returns-in_err-hold : goal.returns-in_err-hold
@@ -38,7 +39,7 @@ bills-requires g c =
     let y = correct_yes a c.args.hold (finding_of c.args.f) (g.M.Method.meaning c.args.m.now) c.in_ok-hold.ensures.0 in
     let s = a.sheet.within_limit in
     let l = a.sheet_limit in
-    (y.ordered, omega (arith, y.billed))
+    (y.ordered, omega (arith, y.billed), y.bills)
 
 pub correct-requires : goal.correct-requires
 correct-requires g c =
@@ -52,7 +53,7 @@ correct-requires g c =
     let u = c.relay_sheet-u.ensures.small in
     let low = u.low in
     let high = u.high in
-    record { few = omega (arith, d.within, d.most); within = (omega (arith, ints), omega (arith, ints)) }
+    record { few = omega (arith, d.within, d.most); within = (omega (arith, ints), omega (arith, ints)); modest = omega (arith, ints, y.few, length-posts (g.T.Tariff.meaning a.tariff) f m c.in_ok-hold.hold 0 0 0 (state_of a).rows) }
 
 pub invariant_of-self : goal.invariant_of-self
 invariant_of-self g c =
@@ -69,6 +70,7 @@ invariant_of-self g c =
       sheet_limit = r.limit ∙ a.sheet_limit ∙ ap (λ k. min k 120) (sym r.size);
       journal_limit = grown_limit a _ _ w;
       counted = omega (arith, lines, d.filled);
+      runs = runs_relaid a _ (g.T.Tariff.meaning a.tariff) f m r.rows;
     }
 
 pub returns : goal.returns
@@ -89,5 +91,6 @@ returns g c =
       sheet_past = e.rows.past;
       journal = e.lines;
       sums = c.correct.ensures;
+      memory = record { sheet = e.lent.0; journal = e.lent.1 };
     }) (correct c.args.hold f m) c.relay_sheet-u.result.0 c.in_ok-hold.ensures.0 (e.sum ∙ ap (λ z. cents_of (posts t f m z 0 0 0 (state_of a).rows)) c.in_ok-hold.ensures.1) (corrected_is t (opening_of a) a c.in_ok-hold.hold c.args.hold f m c.relay_sheet-u.result.0 c.bills.result.count (c.relay_sheet-u.new.journal.filled - a.journal.filled) c.in_ok-hold.ensures.1 e.sum c.bills.ensures) in
     record { after = r.0; law = r.1 }

@@ -41,5 +41,6 @@ returns g c =
       sheet_past = e.sheet_past;
       journal = e.journal;
       sums = e.sums;
+      memory = record { sheet = e.memory.sheet; journal = e.memory.journal };
     }) (estimate c.args.hold last m) (pos c.without_reading-row.result.charge.figure.0) said.0 (ap (λ (x : show.Row). pos x.cents) row) (entered_is t a b.hold c.args.hold _ (without_reading first last m ps) said.1.0 row) in
     record { after = r.0; law = r.1 }

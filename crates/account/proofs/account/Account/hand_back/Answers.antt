@@ -20,6 +20,6 @@ returns g c =
       accepted = pass _ _ _ _ c.in_ok-held.ensures.0 refl;
       value = refl;
       state = refl;
-      same = record { opening = refl; tariff = refl; sheet_past = refl; journal_past = refl };
+      same = record { opening = refl; tariff = refl; sheet_past = refl; journal_past = refl; memory = record { sheet = refl; journal = refl } };
     }) in
     record { after = s; law = lawful g.T.Tariff.meaning _ _ _ _ s }

@@ -31,6 +31,7 @@ invariant_of-self g c =
       sheet_limit = a.sheet_limit;
       journal_limit = grown_limit a _ _ w;
       counted = lines ∙ ap (λ n. n + 1) a.counted ∙ sym w.filled;
+      runs = a.runs;
     }
 
 pub returns : goal.returns
@@ -52,5 +53,6 @@ returns g c =
       sheet_past = refl;
       journal = grown_by a _ _ _ said.1.2 seen (appended_by a _ _ said.1.2 c.append.ensures.after);
       sums = c.pay.ensures ∙ ap (paid_by (totals a.sums)) said.1.1;
+      memory = record { sheet = refl; journal = c.append.ensures.lent };
     }) (pay hold cents) (pos p.payment.cents) said.0 (ap pos said.1.1) refl in
     record { after = r.0; law = r.1 }

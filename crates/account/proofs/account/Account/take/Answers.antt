@@ -19,6 +19,6 @@ returns g c =
       accepted = said.0;
       value = ap pos said.1.0;
       state = ap (granting (state_of a) (c.args.moment + c.args.span)) said.1.0;
-      same = record { opening = refl; tariff = refl; sheet_past = refl; journal_past = refl };
+      same = record { opening = refl; tariff = refl; sheet_past = refl; journal_past = refl; memory = record { sheet = refl; journal = refl } };
     }) in
     record { after = s; law = lawful g.T.Tariff.meaning _ _ _ _ s }

@@ -27,7 +27,7 @@ loop-b-preserved c =
     let b = c.loop-b.b in
     let x = get_or places b none in
     let part = c.instalment.ensures ∙ ap (instalment u n) (add-one b) in
-    turn_in u n _ places b c.loop-b.invariant (omega arith) x _ (get_or_default places b none x (omega arith)) (le-leb (suc b) n (omega (arith, c.min-reached.ensures)))
+    turn_in u n _ places b c.loop-b.invariant (omega arith) x _ (get_or_default places b none x (omega arith)) (le-leb (suc b) n (omega arith))
     (ap seen c.raise.ensures ∙ ap (λ (p : _). record { cents = x.cents.0 + p; count = x.count + 1 }) part)
 
 pub returns : goal.returns
@@ -35,8 +35,7 @@ returns c =
     let u = c.args.s.cents.0 in
     let n = c.args.s.bills.count in
     let old = c.args.self.now.places in
-    let k = c.min-reached.result in
     let done = turn_all u n _ _ _ c.loop-b.invariant (omega arith) (omega arith) in
-    map-append seen c.loop-b.place-items (drop k old)
-    ∙ ap (λ (is : _). is ++ map seen (drop k old)) done
-    ∙ spread_front u n 1 k old (λ (h : k < length old). omega (arith, c.min-reached.ensures))
+    map-append seen c.loop-b.place-items (drop n old)
+    ∙ ap (λ (is : _). is ++ map seen (drop n old)) done
+    ∙ spread_front u n 1 n old (λ (h : n < length old). omega arith)
