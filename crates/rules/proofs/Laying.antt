@@ -3,15 +3,15 @@ use Rattle.std.proofs.Common.{◌≡◌, ℕ, zero, suc, ◌+◌, ◌-◌, ◌<�
 use Rattle.std.specs.Prelude.{filter}
 use Rattle.std.proofs.lemmas.Bool.{cond_both, cond-true, cond-false, leb-true, leb-false, le-leb, lt-leb, eqb-false, and_from, and_left, and_right, cases_lt, cases_Bool}
 use Rattle.std.proofs.lemmas.List.{length-map, length_push}
-use Rattle.rules.specs.Subject.{day_units, peak_units, Sort, estimated, no_energy, Period, days, is_estimated, Cause, absent, under, over, stopped, altered, Finding, Method, day_weight, peak_weight, Call, take, hand_back, bill, estimate, correct, pay, Opening}
-use Rattle.rules.specs.Sharing.{whole, share, shares}
+use Rattle.rules.specs.Subject.{Register, day_units, peak_units, units, Sort, estimated, no_energy, Period, days, is_estimated, Cause, absent, under, over, stopped, altered, Finding, Method, weight_of, day_weight, peak_weight, Call, take, hand_back, bill, estimate, correct, pay, Opening}
+use Rattle.rules.specs.Sharing.{share, shares, Shared}
 use Rattle.rules.specs.Laid.{next_day, run_on, run_past, run, laid, with_standing, blank, is_late, without_reading, in_span, rewrites_sort, rewrites, rewritten, corrected}
 use Rattle.rules.specs.Questions.{is_absent, row_is}
 use Rattle.rules.specs.Given.{give, given}
 use Rattle.rules.specs.Owed.{billed}
 use Rattle.rules.specs.Law.{Every}
-use Rattle.rules.specs.Laying.{estimates_since_bill, Unread, laid_anew, without_standing, Relaid, Lays, lays_for, StandsAsLaid}
-use Rattle.rules.proofs.Shares.{whole_none}
+use Rattle.rules.specs.Laying.{estimates_since_bill, Unread, laid_anew, without_standing, EstimatedBy, CorrectedBy, Lays, lays_for, StandsAsLaid}
+use Rattle.rules.proofs.Shares.{sharing_rule}
 
 taken_none : (n : ℕ) → ◌≡◌ {A = List Period} (first_of_list n []) []
 taken_none zero = refl
@@ -45,19 +45,31 @@ module _ (f : Finding) (m : Method) where
       let r = rewritten f (suc row) ps in
       cond_both b (p ∷ r) r (λ rs. cond b (h (p ∷ r)) (h r) ≡ h rs) (λ e. cond-true b (h (p ∷ r)) (h r) e) (λ e. cond-false b (h (p ∷ r)) (h r) e)
 
-  day_laid : (row V W : ℕ) (ps : List Period) → Told (λ p. p.standing.day) V W row ps (shares (m.upper day_units) m.lower V (map (day_weight m) (rewritten f row ps)))
-  unfolding rewritten corrected
-  day_laid row V W [] = refl
-  day_laid row V W (p ∷ ps) =
-      told_more (λ p. p.standing.day) row V W p ps _ _ (λ e. day_laid (suc row) (V + day_weight m p) (W + peak_weight m p) ps) (λ e. day_laid (suc row) V W ps)
-      ∙ of_rewritten (λ rs. shares (m.upper day_units) m.lower V (map (day_weight m) rs)) row p ps
+  -- of one of the two registers: the weights before, and the share
+  abbrev before_of : Register → (V W : ℕ) → ℕ
+  before_of day_units V W = V
+  before_of peak_units V W = W
 
-  peak_laid : (row V W : ℕ) (ps : List Period) → Told (λ p. p.standing.peak) V W row ps (shares (m.upper peak_units) m.lower W (map (peak_weight m) (rewritten f row ps)))
+  share_laid : (k : Register) (V W : ℕ) (p : Period) → units k (laid m V W p) ≡ share (m.upper k) m.lower (before_of k V W) (weight_of m k p)
+  share_laid day_units V W p = refl
+  share_laid peak_units V W p = refl
+
+  weight_more : (k : Register) (V W : ℕ) (p : Period) → before_of k (V + day_weight m p) (W + peak_weight m p) ≡ before_of k V W + weight_of m k p
+  weight_more day_units V W p = refl
+  weight_more peak_units V W p = refl
+
+  units_laid : (k : Register) (row V W : ℕ) (ps : List Period) →
+      Told (λ p. units k p.standing) V W row ps (shares (m.upper k) m.lower (before_of k V W) (map (weight_of m k) (rewritten f row ps)))
   unfolding rewritten corrected
-  peak_laid row V W [] = refl
-  peak_laid row V W (p ∷ ps) =
-      told_more (λ p. p.standing.peak) row V W p ps _ _ (λ e. peak_laid (suc row) (V + day_weight m p) (W + peak_weight m p) ps) (λ e. peak_laid (suc row) V W ps)
-      ∙ of_rewritten (λ rs. shares (m.upper peak_units) m.lower W (map (peak_weight m) rs)) row p ps
+  units_laid k row V W [] = refl
+  units_laid k row V W (p ∷ ps) =
+      let gives : ℕ → List Period → List ℕ = λ v rs. shares (m.upper k) m.lower v (map (weight_of m k) rs) in
+      let rest = rewritten f (suc row) ps in
+      told_more (λ p. units k p.standing) row V W p ps _ _
+      (λ e. units_laid k (suc row) (V + day_weight m p) (W + peak_weight m p) ps ∙ ap (λ v. gives v rest) (weight_more k V W p))
+      (λ e. units_laid k (suc row) V W ps)
+      ∙ ap (λ s. cond (rewrites f row p) (s ∷ gives (before_of k V W + weight_of m k p) rest) (gives (before_of k V W) rest)) (share_laid k V W p)
+      ∙ of_rewritten (gives (before_of k V W)) row p ps
 
   demand_laid : (row V W : ℕ) (ps : List Period) → Told (λ p. p.standing.demand) V W row ps (map (λ p. m.demand (days p) p.recorded) (rewritten f row ps))
   unfolding rewritten corrected
@@ -125,21 +137,48 @@ module _ (f : Finding) (m : Method) where
       (λ y. untouched_at (suc base) (V + day_weight m p) (W + peak_weight m p) row i ps (omega (arith, e)) h)
       (λ n. untouched_at (suc base) V W row i ps (omega (arith, e)) h)
 
-  pub corrected_lays : (ps : List Period) → Relaid f m ps (corrected f m 0 0 0 ps)
+  none_before : (k : Register) → before_of k 0 0 ≡ 0
+  none_before day_units = refl
+  none_before peak_units = refl
+
+  units_anew : (k : Register) (ps : List Period) → shares (m.upper k) m.lower 0 (map (weight_of m k) (laid_anew f ps)) ≡ map (λ p. units k p.standing) (laid_anew f (corrected f m 0 0 0 ps))
+  units_anew k ps =
+      sym (
+      ap (map (λ p. units k p.standing)) (sym (rewritten_anew (corrected f m 0 0 0 ps)))
+      ∙ units_laid k 0 0 0 ps
+      ∙ ap₂ (λ v rs. shares (m.upper k) m.lower v (map (weight_of m k) rs)) (none_before k) (rewritten_anew ps))
+
+  pub corrected_lays : (ps : List Period) → CorrectedBy f m ps (corrected f m 0 0 0 ps)
   corrected_lays ps =
-      let old = rewritten_anew ps in
-      let new = sym (rewritten_anew (corrected f m 0 0 0 ps)) in
       record {
-        day = ap (map (λ p. p.standing.day)) new ∙ day_laid 0 0 0 ps ∙ ap (λ rs. shares (m.upper day_units) m.lower 0 (map (day_weight m) rs)) old;
-        peak = ap (map (λ p. p.standing.peak)) new ∙ peak_laid 0 0 0 ps ∙ ap (λ rs. shares (m.upper peak_units) m.lower 0 (map (peak_weight m) rs)) old;
-        demand = ap (map (λ p. p.standing.demand)) new ∙ demand_laid 0 0 0 ps ∙ ap (map (λ p. m.demand (days p) p.recorded)) old;
+        anew = record {
+          shared = λ k.
+              let weights = map (weight_of m k) (laid_anew f ps) in
+              subst (Shared (m.upper k) m.lower weights) (units_anew k ps) (sharing_rule (m.upper k) m.lower weights m.lower_least);
+          demands =
+              ap (map (λ p. p.standing.demand)) (sym (rewritten_anew (corrected f m 0 0 0 ps)))
+              ∙ demand_laid 0 0 0 ps
+              ∙ ap (map (λ p. m.demand (days p) p.recorded)) (rewritten_anew ps);
+        };
         kept = all_kept 0 0 0 ps;
         others = λ row h. untouched_at 0 0 0 row row ps (omega arith) h;
       }
 
--- a share alone is the whole part of the exact one
-share_alone : (N D w : ℕ) → share N D 0 w ≡ whole N D w
-share_alone N D w = let none = whole_none N D in let e = ap (whole N D) (zero-add w) in omega (arith, e)
+share_alone : (m : Method) (k : Register) (p : Period) → shares (m.upper k) m.lower 0 (weight_of m k p ∷ []) ≡ units k (laid m 0 0 p) ∷ []
+share_alone m day_units p = refl
+share_alone m peak_units p = refl
+
+-- an estimated period has its method's share alone
+alone : (first last : ℕ) (m : Method) → let p = blank first last estimated in EstimatedBy m (with_standing (laid m 0 0 p) p)
+alone first last m =
+    let p = blank first last estimated in
+    record {
+      sort = refl;
+      alone = record {
+        shared = λ k. subst (Shared (m.upper k) m.lower (weight_of m k p ∷ [])) (share_alone m k p) (sharing_rule (m.upper k) m.lower (weight_of m k p ∷ []) m.lower_least);
+        demands = refl;
+      };
+    }
 
 run_push : (n : ℕ) (ps : List Period) (p : Period) → run_past n (ps ++ (p ∷ [])) ≡ run_on (run_past n ps) p
 run_push n [] p = refl
@@ -191,12 +230,7 @@ unread first until n m ps e =
       begins = refl;
       ends = refl;
       recorded = refl;
-      six = λ few. record {
-        sort = refl;
-        day = share_alone (m.upper day_units) m.lower (day_weight m p);
-        peak = share_alone (m.upper peak_units) m.lower (peak_weight m p);
-        demand = refl;
-      };
+      six = λ few. alone first until m;
       seventh = λ many. absurd (omega (arith, many, e, leb-false 6 (run ps) soon));
     })
 

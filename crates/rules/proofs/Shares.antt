@@ -1,7 +1,7 @@
 -- The laws of the sharing rule and of instalments, for all weights. Assumes nothing.
-use Rattle.std.proofs.Common.{◌≡◌, ℕ, zero, suc, ◌+◌, ◌-◌, ◌*◌, ◌/◌, ◌%◌, ◌<◌, ◌≤◌, min, List, [], ◌∷◌, sym, ap, ◌∙◌, add-zero, add_assoc, mod-lt, add-mul, mul-le-mul_left, mul-zero, div-add-mod', le-div_iff_mul-le, zero-add, zero-mul, div-mul-le_self, mul-div_cancel, arith}
+use Rattle.std.proofs.Common.{◌≡◌, ℕ, zero, suc, ◌+◌, ◌-◌, ◌*◌, ◌/◌, ◌%◌, ◌<◌, ◌≤◌, min, List, [], ◌∷◌, take, sym, refl, subst, ap, ◌∙◌, add-zero, add_assoc, mod-lt, add-mul, mul-le-mul_left, mul-zero, div-add-mod', le-div_iff_mul-le, zero-add, zero-mul, div-mul-le_self, mul-div_cancel, arith}
 use native.Mathlib.Nat.{div-zero, zero-div, zero-min}
-use Rattle.rules.specs.Sharing.{sum_of, whole, share, shares, brought, Near, AllNear, SharingRule, first_instalments, InstalmentRule}
+use Rattle.rules.specs.Sharing.{sum_of, whole, share, shares, brought, Near, AllNear, WholePart, SharingRule, first_instalments, InstalmentRule}
 
 -- ⌊a ÷ D⌋ rises with a
 pub div_mono : (a b D : ℕ) → a ≤ b → a / D ≤ b / D
@@ -81,13 +81,34 @@ shares_near : (N D V : ℕ) (ws : List ℕ) → 1 ≤ D → AllNear N D ws (shar
 shares_near N D V [] some = tt
 shares_near N D V (w ∷ ws) some = (share_near N D V w some, shares_near N D (V + w) ws some)
 
+-- a whole part, by division
+whole_part : (N D W : ℕ) → 1 ≤ D → WholePart N D W (whole N D W)
+unfolding whole
+whole_part N D W some =
+    let parts = div-add-mod' (W * N) D in
+    let few : W * N % D < D = mod-lt (W * N) some in
+    record { not_over = omega arith; not_under = omega arith }
+
+total_whole : (N D : ℕ) (ws : List ℕ) → sum_of (λ s. s) (shares N D 0 ws) ≡ whole N D (sum_of (λ w. w) ws)
+total_whole N D ws =
+    let all = shares_sum N D 0 ws in
+    let none = whole_none N D in
+    let start : whole N D (0 + sum_of (λ w. w) ws) ≡ whole N D (sum_of (λ w. w) ws) = ap (whole N D) (zero-add (sum_of (λ w. w) ws)) in
+    omega arith
+
+shares_total : (N D : ℕ) (ws : List ℕ) → 1 ≤ D → WholePart N D (sum_of (λ w. w) ws) (sum_of (λ s. s) (shares N D 0 ws))
+shares_total N D ws some = subst (WholePart N D (sum_of (λ w. w) ws)) (sym (total_whole N D ws)) (whole_part N D (sum_of (λ w. w) ws) some)
+
+-- the first shares are those of the first rows
+shares_take : (N D V i : ℕ) (ws : List ℕ) → shares N D V (take i ws) ≡ take i (shares N D V ws)
+shares_take N D V zero ws = refl
+shares_take N D V (suc i) [] = refl
+shares_take N D V (suc i) (w ∷ ws) = ap (λ ss. share N D V w ∷ ss) (shares_take N D (V + w) i ws)
+
 pub sharing_rule : SharingRule
 sharing_rule N D ws some = record {
-  total =
-      let all = shares_sum N D 0 ws in
-      let none = whole_none N D in
-      let start : whole N D (0 + sum_of (λ w. w) ws) ≡ whole N D (sum_of (λ w. w) ws) = ap (whole N D) (zero-add (sum_of (λ w. w) ws)) in
-      omega arith;
+  total = shares_total N D ws some;
+  first = λ i. subst (λ ss. WholePart N D (sum_of (λ w. w) (take i ws)) (sum_of (λ s. s) ss)) (shares_take N D 0 i ws) (shares_total N D (take i ws) some);
   near = shares_near N D 0 ws some;
 }
 

@@ -1,7 +1,7 @@
 -- What each call lays down, between the periods before it and those after it. Assumes nothing.
 use Rattle.std.specs.Prelude.{◌≡◌, ℕ, ◌+◌, ◌-◌, ◌<◌, ◌≤◌, Bool, true, false, not, ◌&&◌, ◌||◌, List, [], ◌∷◌, ◌++◌, map, length, take as first_of_list, drop, filter, slice_get, ◌==◌, nat_le}
-use Rattle.rules.specs.Subject.{zeros, day_units, peak_units, read, estimated, no_energy, Period, days, is_estimated, Finding, Method, Call, take, hand_back, bill, estimate, correct, pay, Opening}
-use Rattle.rules.specs.Sharing.{whole, shares}
+use Rattle.rules.specs.Subject.{zeros, Register, units, read, estimated, no_energy, Period, days, is_estimated, Finding, Method, Call, take, hand_back, bill, estimate, correct, pay, Opening}
+use Rattle.rules.specs.Sharing.{Shared}
 use Rattle.rules.specs.Laid.{next_day}
 use Rattle.rules.specs.Questions.{is_absent, row_is}
 use Rattle.rules.specs.Owed.{billed}
@@ -13,26 +13,30 @@ estimates_since_bill (bill hold last r ∷ calls) = 0
 estimates_since_bill (estimate hold last m ∷ calls) = estimates_since_bill calls + 1
 estimates_since_bill (c ∷ calls) = estimates_since_bill calls
 
--- the method's share for a period alone, and its demand
-pub record SharedAlone (m : Method) (p : Period) : Type 0 where
+-- what a method gives rows of these periods: of each register units by the sharing rule, in the order of the rows, and a demand for each;
+-- it rests on the days and the recorded registers that the rows have in old, and is what stands for them in new
+pub record ByMethod (m : Method) (old new : List Period) : Type 0 where
+  pub shared : (k : Register) → Shared (m.upper k) m.lower (map (λ p. m.weight k (days p) p.recorded) old) (map (λ p. units k p.standing) new)
+  pub demands : map (λ p. p.standing.demand) new ≡ map (λ p. m.demand (days p) p.recorded) old
+
+-- an estimated period: what the method gives it alone
+pub record EstimatedBy (m : Method) (p : Period) : Type 0 where
   pub sort : p.sort ≡ estimated
-  pub day : p.standing.day ≡ whole (m.upper day_units) m.lower (m.weight day_units (days p) p.recorded)
-  pub peak : p.standing.peak ≡ whole (m.upper peak_units) m.lower (m.weight peak_units (days p) p.recorded)
-  pub demand : p.standing.demand ≡ m.demand (days p) p.recorded
+  pub alone : ByMethod m (p ∷ []) (p ∷ [])
 
 -- a period without energy
 pub record WithoutEnergy (p : Period) : Type 0 where
   pub sort : p.sort ≡ no_energy
   pub standing : p.standing ≡ zeros
 
--- one period more, on which nothing was recorded: shared alone for the first six estimates since a bill, and without energy from the seventh on
+-- one period more, on which nothing was recorded: an estimated one for the first six estimates since a bill, one without energy from then on
 pub record Unread (first until estimates : ℕ) (m : Method) (old new : List Period) : Type 0 where
   pub period : Period
   pub added : new ≡ old ++ (period ∷ [])
   pub begins : period.first ≡ first
   pub ends : period.last ≡ until
   pub recorded : period.recorded ≡ zeros
-  pub six : estimates < 6 → SharedAlone m period
+  pub six : estimates < 6 → EstimatedBy m period
   pub seventh : 6 ≤ estimates → WithoutEnergy period
 
 -- the rows of a finding's span, and of them those that it lays down anew: for the cause absent the estimated ones
@@ -49,14 +53,12 @@ lays_anew f ps row =
 
 -- a period without what stands for it: its days, its sort and what was recorded
 abbrev pub without_standing : Period → Period
-without_standing p = record { first = p.first; last = p.last; sort = p.sort; recorded = p.recorded; standing = zeros }
+without_standing p = record p { standing = zeros }
 
--- a correction: of the rows laid down anew the units are the shares of their weights, and each demand is the method's; the days, sort and
--- recorded registers of every row and everything of the other rows are kept
-pub record Relaid (f : Finding) (m : Method) (old new : List Period) : Type 0 where
-  pub day : map (λ p. p.standing.day) (laid_anew f new) ≡ shares (m.upper day_units) m.lower 0 (map (λ p. m.weight day_units (days p) p.recorded) (laid_anew f old))
-  pub peak : map (λ p. p.standing.peak) (laid_anew f new) ≡ shares (m.upper peak_units) m.lower 0 (map (λ p. m.weight peak_units (days p) p.recorded) (laid_anew f old))
-  pub demand : map (λ p. p.standing.demand) (laid_anew f new) ≡ map (λ p. m.demand (days p) p.recorded) (laid_anew f old)
+-- a correction gives the rows that it lays down anew what its method gives them; every row keeps its days, its sort and what was
+-- recorded, and every other row what stands for it too
+pub record CorrectedBy (f : Finding) (m : Method) (old new : List Period) : Type 0 where
+  pub anew : ByMethod m (laid_anew f old) (laid_anew f new)
   pub kept : map without_standing new ≡ map without_standing old
   pub others : (row : ℕ) → lays_anew f old row ≡ false → slice_get new row ≡ slice_get old row
 
@@ -67,7 +69,7 @@ LaysDown o (hand_back hold) before old new = new ≡ old
 LaysDown o (bill hold last r) before old new =
     new ≡ old ++ (record { first = next_day o.day old; last = last; sort = read; recorded = r; standing = r } ∷ [])
 LaysDown o (estimate hold last m) before old new = Unread (next_day o.day old) last (estimates_since_bill before) m old new
-LaysDown o (correct hold f m) before old new = Relaid f m old new
+LaysDown o (correct hold f m) before old new = CorrectedBy f m old new
 LaysDown o (pay hold cents) before old new = new ≡ old
 
 -- the same of an accepted call and the accepted calls before it

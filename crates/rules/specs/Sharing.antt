@@ -1,5 +1,5 @@
 -- How units are shared over rows, and an undercharge over bills. Assumes nothing.
-use Rattle.std.specs.Prelude.{◌≡◌, ℕ, zero, suc, ◌+◌, ◌-◌, ◌*◌, ◌/◌, ◌<◌, ◌≤◌, min, List, [], ◌∷◌}
+use Rattle.std.specs.Prelude.{◌≡◌, ℕ, zero, suc, ◌+◌, ◌-◌, ◌*◌, ◌/◌, ◌<◌, ◌≤◌, min, List, [], ◌∷◌, take}
 
 -- what f gives over the whole list
 abbrev pub sum_of : {X : Type 0} → (X → ℕ) → List X → ℕ
@@ -39,13 +39,23 @@ AllNear N D [] (s ∷ ss) = ⊥
 AllNear N D (w ∷ ws) [] = ⊥
 AllNear N D (w ∷ ws) (s ∷ ss) = Near N D w s × AllNear N D ws ss
 
--- the facts of the sharing rule: the shares add up to the whole part of the exact total, and each is near its exact share
-pub record Shared (N D : ℕ) (ws : List ℕ) : Type 0 where
-  pub total : sum_of (λ s. s) (shares N D 0 ws) ≡ whole N D (sum_of (λ w. w) ws)
-  pub near : AllNear N D ws (shares N D 0 ws)
+-- s is the whole part of W × N ÷ D, compared over D
+pub record WholePart (N D W s : ℕ) : Type 0 where
+  pub not_over : s * D ≤ W * N
+  pub not_under : W * N < s * D + D
 
+-- the sharing rule in so many words: rows of these weights get these units, if
+--   all of them together get the whole part of their exact total;
+--   so do the first i of them, for every i;
+--   each gets less than one unit more or less than its exact share
+pub record Shared (N D : ℕ) (weights units : List ℕ) : Type 0 where
+  pub total : WholePart N D (sum_of (λ w. w) weights) (sum_of (λ s. s) units)
+  pub first : (i : ℕ) → WholePart N D (sum_of (λ w. w) (take i weights)) (sum_of (λ s. s) (take i units))
+  pub near : AllNear N D weights units
+
+-- shares keep it, whatever the weights
 abbrev pub SharingRule : Type 0
-SharingRule = (N D : ℕ) (ws : List ℕ) → 1 ≤ D → Shared N D ws
+SharingRule = (N D : ℕ) (ws : List ℕ) → 1 ≤ D → Shared N D ws (shares N D 0 ws)
 
 -- the first k instalments of u over n, the last of them first
 abbrev pub first_instalments : (u n k : ℕ) → List ℕ

@@ -20,6 +20,10 @@ zeros = record { day = 0; peak = 0; demand = 0 }
 pub data Register : Type 0 where
   day_units peak_units : Register
 
+abbrev pub units : Register → Registers → ℕ
+units day_units r = r.day
+units peak_units r = r.peak
+
 -- the most days that a billed period may have
 abbrev pub longest : ℕ
 longest = 100
