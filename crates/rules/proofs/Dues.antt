@@ -5,12 +5,12 @@ use Rattle.std.proofs.lemmas.Bool.{cond_both, cond-true, cond-false, ltb-true, l
 use Rattle.std.proofs.lemmas.Int.{ints}
 use Rattle.std.proofs.lemmas.List.{length_push}
 use Rattle.rules.specs.Subject.{Period, Tariff, Cause, absent, under, over, stopped, altered, Side, consumer, supplier, Finding, Call, take, hand_back, bill, estimate, correct, pay, Opening}
-use Rattle.rules.specs.Sharing.{brought, instalment}
+use Rattle.rules.specs.Sharing.{sum_of, brought, instalment}
 use Rattle.rules.specs.Laid.{corrected}
 use Rattle.rules.specs.Questions.{size, bills_of, bills, span_right, row_is, has_day, asked}
 use Rattle.rules.specs.Given.{give, given}
 use Rattle.rules.specs.Shown.{row_of, Instalment, State}
-use Rattle.rules.specs.Owed.{billed, charged, undercharge, not_yet_due, brings, bringing, instalments}
+use Rattle.rules.specs.Owed.{billed, charged, Undercharge, undercharge, undercharges, not_yet_due, brings, bringing, instalments}
 use Rattle.rules.specs.Journal.{cents_of}
 use Rattle.rules.specs.Law.{Every}
 use Rattle.rules.specs.Machine.{empty, first_cents, moved_up, spread, posts, bill_row, effect}
@@ -20,7 +20,7 @@ use Rattle.rules.proofs.Holds.{answers}
 use Rattle.rules.proofs.Journal.{posts_changes, cents_changes}
 
 due_next : (t : Tariff) (o : Opening) (b : ℕ) (calls : List Call) → not_yet_due t o b calls ≡ brings t o b calls + not_yet_due t o (suc b) calls
-unfolding not_yet_due brings
+unfolding undercharges
 due_next t o b [] = refl
 due_next t o b (take now length ∷ before) = due_next t o b before
 due_next t o b (hand_back hold ∷ before) = due_next t o b before
@@ -41,34 +41,25 @@ bills_limit stopped s f ps h = omega (arith, leb-true (size f) 12 (and_parts (le
 bills_limit altered s f ps h = omega arith
 
 -- from the thirteenth bill on nothing more comes
-brings_late : (t : Tariff) (o : Opening) (b : ℕ) (calls : List Call) → Every (Passed o) calls → 12 ≤ b → brings t o b calls ≡ 0
-unfolding brings asked
-brings_late t o b [] h k = refl
-brings_late t o b (take now length ∷ before) h k = brings_late t o b before h.1 k
-brings_late t o b (hand_back hold ∷ before) h k = brings_late t o b before h.1 k
-brings_late t o b (bill hold last r ∷ before) h k = brings_late t o (suc b) before h.1 (omega arith)
-brings_late t o b (estimate hold last m ∷ before) h k = brings_late t o (suc b) before h.1 (omega arith)
-brings_late t o b (correct hold f m ∷ before) h k =
-    let u = undercharge t o (correct hold f m) before in
+none_late : (g : Undercharge → ℕ) → ((u : Undercharge) → u.over ≤ u.since → g u ≡ 0) → (t : Tariff) (o : Opening) (b : ℕ) (calls : List Call) → Every (Passed o) calls → 12 ≤ b → sum_of g (undercharges t o b calls) ≡ 0
+unfolding undercharges asked
+none_late g z t o b [] h k = refl
+none_late g z t o b (take now length ∷ before) h k = none_late g z t o b before h.1 k
+none_late g z t o b (hand_back hold ∷ before) h k = none_late g z t o b before h.1 k
+none_late g z t o b (bill hold last r ∷ before) h k = none_late g z t o (suc b) before h.1 (omega arith)
+none_late g z t o b (estimate hold last m ∷ before) h k = none_late g z t o (suc b) before h.1 (omega arith)
+none_late g z t o b (correct hold f m ∷ before) h k =
     let seven = (answers o (correct hold f m) before h.0).1.1.1.1.0 in
     let few : bills f ≤ 12 = bills_limit f.cause f.side f (billed o before) seven in
-    omega (arith, brought_late u (bills f) b (omega arith), brings_late t o b before h.1 k)
-brings_late t o b (pay hold cents ∷ before) h k = brings_late t o b before h.1 k
+    let none = z (record { cents = undercharge t o (correct hold f m) before; over = bills f; since = b }) (omega arith) in
+    omega (arith, none, none_late g z t o b before h.1 k)
+none_late g z t o b (pay hold cents ∷ before) h k = none_late g z t o b before h.1 k
+
+brings_late : (t : Tariff) (o : Opening) (b : ℕ) (calls : List Call) → Every (Passed o) calls → 12 ≤ b → brings t o b calls ≡ 0
+brings_late = none_late _ (λ u h. omega (arith, brought_late u.cents u.over u.since h))
 
 bringing_late : (t : Tariff) (o : Opening) (b : ℕ) (calls : List Call) → Every (Passed o) calls → 12 ≤ b → bringing t o b calls ≡ 0
-unfolding bringing asked
-bringing_late t o b [] h k = refl
-bringing_late t o b (take now length ∷ before) h k = bringing_late t o b before h.1 k
-bringing_late t o b (hand_back hold ∷ before) h k = bringing_late t o b before h.1 k
-bringing_late t o b (bill hold last r ∷ before) h k = bringing_late t o (suc b) before h.1 (omega arith)
-bringing_late t o b (estimate hold last m ∷ before) h k = bringing_late t o (suc b) before h.1 (omega arith)
-bringing_late t o b (correct hold f m ∷ before) h k =
-    let u = undercharge t o (correct hold f m) before in
-    let seven = (answers o (correct hold f m) before h.0).1.1.1.1.0 in
-    let few : bills f ≤ 12 = bills_limit f.cause f.side f (billed o before) seven in
-    let none : ◌≡◌ {A = ℕ} (cond (ltb 0 u && ltb b (bills f)) 1 0) 0 = cond-false {A = ℕ} _ 1 0 (and_right (ltb 0 u) _ (le-ltb b (bills f) (omega arith))) in
-    omega (arith, none, bringing_late t o b before h.1 k)
-bringing_late t o b (pay hold cents ∷ before) h k = bringing_late t o b before h.1 k
+bringing_late = none_late _ (λ u h. cond-false {A = ℕ} _ 1 0 (and_right (ltb 0 u.cents) _ (le-ltb u.since u.over h)))
 
 abbrev placing : (cents count : ℕ) → Instalment
 placing cents count = record { cents = cents; count = count }
@@ -172,7 +163,7 @@ placed_correct t o calls calls' false x old new n e h g c is k =
     (λ b. sym (c b ∙ ap (λ v. cond (ltb 0 v && ltb b n) 1 0 + bringing t o b calls) u ∙ omega arith)) 0 is k
 
 kept_step : (t : Tariff) (o : Opening) (c : Call) (before : List Call) (s : State) → Every (Passed o) before → s.rows ≡ map (row_of t) (billed o before) → Kept t o before s → Kept t o (c ∷ before) (effect t o s c)
-unfolding effect brings bringing not_yet_due given give
+unfolding effect undercharges given give
 kept_step t o (take now length) before s h rs k = record { due = k.due; twelve = k.twelve; placed = placed_same t o before (take now length ∷ before) (λ b. refl) (λ b. refl) 0 s.coming k.placed }
 kept_step t o (hand_back hold) before s h rs k = record { due = k.due; twelve = k.twelve; placed = placed_same t o before (hand_back hold ∷ before) (λ b. refl) (λ b. refl) 0 s.coming k.placed }
 kept_step t o (bill hold last r) before s h rs k = kept_bill t o before (bill hold last r ∷ before) s hold _ (λ b. refl) (λ b. refl) refl (brings_late t o 12 before h (omega arith)) (bringing_late t o 12 before h (omega arith)) k
@@ -195,6 +186,6 @@ kept_step t o (correct hold f m) before s h rs k =
 kept_step t o (pay hold cents) before s h rs k = record { due = omega (arith, ints, k.due); twelve = k.twelve; placed = placed_same t o before (pay hold cents ∷ before) (λ b. refl) (λ b. refl) 0 s.coming k.placed }
 
 pub kept_ran : (t : Tariff) (o : Opening) (calls : List Call) → Every (Passed o) calls → Kept t o calls (ran t o calls)
-unfolding ran brings bringing not_yet_due
+unfolding ran undercharges
 kept_ran t o [] h = record { due = refl; twelve = refl; placed = (refl, refl, (refl, refl, (refl, refl, (refl, refl, (refl, refl, (refl, refl, (refl, refl, (refl, refl, (refl, refl, (refl, refl, (refl, refl, (refl, refl, tt)))))))))))) }
 kept_ran t o (c ∷ before) h = kept_step t o c before (ran t o before) h.1 (rows_ran t o before) (kept_ran t o before h.1)

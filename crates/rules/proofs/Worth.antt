@@ -12,7 +12,7 @@ use Rattle.rules.specs.Law.{worth_of, answer_to}
 use Rattle.rules.specs.Machine.{view, posts, worth, step}
 use Rattle.rules.proofs.Runs.{of_cond, after, ran, view_ran, rows_ran, after_ran}
 use Rattle.rules.proofs.Holds.{granted_takes}
-use Rattle.rules.proofs.Journal.{posts_changes, cents_changes, charged_push}
+use Rattle.rules.proofs.Journal.{posts_changes, cents_changes, charged_one}
 
 worth_ran : (t : Tariff) (o : Opening) (c : Call) (calls : List Call) → worth t o (ran t o calls) c ≡ worth_of t o c calls
 unfolding given give
@@ -21,11 +21,11 @@ worth_ran t o (hand_back hold) calls = refl
 worth_ran t o (bill hold last r) calls =
     let ps = billed o calls in
     ap (λ (q : List Period). pos (charge t (metered (next_day o.day q) last r))) (ap (λ (b : Books). b.periods) (view_ran t o calls))
-    ∙ omega (arith, ints, charged_push t ps (metered (next_day o.day ps) last r))
+    ∙ charged_one t ps (metered (next_day o.day ps) last r)
 worth_ran t o (estimate hold last m) calls =
     let ps = billed o calls in
     ap (λ (q : List Period). pos (charge t (without_reading (next_day o.day q) last m q))) (ap (λ (b : Books). b.periods) (view_ran t o calls))
-    ∙ omega (arith, ints, charged_push t ps (without_reading (next_day o.day ps) last m ps))
+    ∙ charged_one t ps (without_reading (next_day o.day ps) last m ps)
 worth_ran t o (correct hold f m) calls =
     let ps = billed o calls in
     ap (λ x. cents_of (posts t f m hold 0 0 0 x)) (rows_ran t o calls)

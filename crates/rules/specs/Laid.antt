@@ -39,7 +39,7 @@ laid m V W p = record {
 }
 
 abbrev pub with_standing : Registers → Period → Period
-with_standing r p = record { first = p.first; last = p.last; sort = p.sort; recorded = p.recorded; standing = r }
+with_standing r p = record p { standing = r }
 
 -- a period that is read, at r
 abbrev pub metered : (first last : ℕ) → Registers → Period
@@ -67,10 +67,7 @@ in_span f row = nat_le f.first row && nat_le row f.last
 -- for the cause absent only the estimated rows are rewritten
 abbrev pub rewrites_sort : Cause → Sort → Bool
 rewrites_sort absent s = is_estimated s
-rewrites_sort under s = true
-rewrites_sort over s = true
-rewrites_sort stopped s = true
-rewrites_sort altered s = true
+rewrites_sort c s = true
 
 abbrev pub rewrites : Finding → ℕ → Period → Bool
 rewrites f row p = in_span f row && rewrites_sort f.cause p.sort

@@ -66,27 +66,19 @@ size f = f.last + 1 - f.first
 -- over how many bills an undercharge is spread
 abbrev pub bills_of : Cause → ℕ → ℕ
 bills_of absent rows = 6
-bills_of under rows = rows
-bills_of over rows = rows
-bills_of stopped rows = rows
 bills_of altered rows = 1
+bills_of c rows = rows
 
 abbrev pub bills : Finding → ℕ
 bills f = bills_of f.cause (size f)
 
 abbrev pub of_sort : Cause → Sort → Bool
 of_sort absent s = is_unmetered s
-of_sort under s = is_read s
-of_sort over s = is_read s
-of_sort stopped s = is_read s
-of_sort altered s = is_read s
+of_sort c s = is_read s
 
 abbrev pub is_absent : Cause → Bool
 is_absent absent = true
-is_absent under = false
-is_absent over = false
-is_absent stopped = false
-is_absent altered = false
+is_absent c = false
 
 -- the row is just before the span, or just after it
 abbrev pub adjoins : Finding → ℕ → Bool

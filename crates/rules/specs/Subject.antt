@@ -45,18 +45,15 @@ days p = p.last + 1 - p.first
 
 abbrev pub is_read : Sort → Bool
 is_read read = true
-is_read estimated = false
-is_read no_energy = false
+is_read s = false
 
 abbrev pub is_estimated : Sort → Bool
-is_estimated read = false
 is_estimated estimated = true
-is_estimated no_energy = false
+is_estimated s = false
 
 abbrev pub is_unmetered : Sort → Bool
 is_unmetered read = false
-is_unmetered estimated = true
-is_unmetered no_energy = true
+is_unmetered s = true
 
 abbrev pub unmetered : Period → Bool
 unmetered p = is_unmetered p.sort
