@@ -1,5 +1,5 @@
 -- What each call lays down. Assumes nothing.
-use Rattle.std.proofs.Common.{◌≡◌, ℕ, zero, suc, ◌+◌, ◌-◌, ◌<◌, ◌≤◌, Bool, true, false, cond, not, ◌&&◌, ◌||◌, eqb, leb, List, [], ◌∷◌, ◌++◌, map, length, take as first_of_list, drop, slice_get, inl, inr, sym, refl, ap, ◌∙◌, ap₂, subst, zero-add, arith}
+use Rattle.std.proofs.Common.{◌≡◌, ℕ, zero, suc, ◌+◌, ◌-◌, ◌<◌, ◌≤◌, Bool, true, false, cond, not, ◌&&◌, ◌||◌, eqb, leb, List, [], ◌∷◌, ◌++◌, map, length, take as first_of_list, drop, slice_get, inl, inr, sym, refl, ap, ◌∙◌, ap₂, subst, arith}
 use Rattle.std.specs.Prelude.{filter}
 use Rattle.std.proofs.lemmas.Bool.{cond_both, cond-true, cond-false, leb-true, leb-false, le-leb, lt-leb, eqb-false, and_from, and_left, and_right, cases_lt, cases_Bool}
 use Rattle.std.proofs.lemmas.List.{length-map, length_push}

@@ -1,6 +1,6 @@
 -- What a call lays down for the periods that it adds or rewrites. Assumes nothing.
 use Rattle.std.specs.Prelude.{ℕ, suc, ◌+◌, Bool, true, cond, not, ◌&&◌, ◌||◌, List, [], ◌∷◌, nat_le, nat_lt}
-use Rattle.rules.specs.Subject.{Registers, zeros, day_units, peak_units, Sort, read, estimated, no_energy, Period, days, is_estimated, unmetered, Cause, absent, under, over, stopped, altered, Finding, Method, day_weight, peak_weight}
+use Rattle.rules.specs.Subject.{Registers, zeros, day_units, peak_units, Sort, read, estimated, no_energy, Period, days, is_estimated, unmetered, Cause, absent, Finding, Method, day_weight, peak_weight}
 use Rattle.rules.specs.Sharing.{share}
 
 -- the day after the last one billed; the opening day where none is
