@@ -10,7 +10,7 @@ use Rattle.rules.specs.Questions.{is_absent, row_is}
 use Rattle.rules.specs.Given.{give, given}
 use Rattle.rules.specs.Owed.{billed}
 use Rattle.rules.specs.Law.{Every}
-use Rattle.rules.specs.Laying.{estimates_since_bill, Unread, laid_anew, without_standing, EstimatedBy, CorrectedBy, Lays, lays_for, StandsAsLaid}
+use Rattle.rules.specs.Laying.{estimates_since_bill, Unread, laid_anew, without_standing, ByMethod, CorrectedBy, Lays, lays_for, StandsAsLaid}
 use Rattle.rules.proofs.Shares.{sharing_rule}
 
 taken_none : (n : ℕ) → ◌≡◌ {A = List Period} (first_of_list n []) []
@@ -169,15 +169,12 @@ share_alone m day_units p = refl
 share_alone m peak_units p = refl
 
 -- an estimated period has its method's share alone
-alone : (first last : ℕ) (m : Method) → let p = blank first last estimated in EstimatedBy m (with_standing (laid m 0 0 p) p)
+alone : (first last : ℕ) (m : Method) → let p = blank first last estimated in let q = with_standing (laid m 0 0 p) p in ByMethod m (q ∷ []) (q ∷ [])
 alone first last m =
     let p = blank first last estimated in
     record {
-      sort = refl;
-      alone = record {
-        shared = λ k. subst (Shared (m.upper k) m.lower (weight_of m k p ∷ [])) (share_alone m k p) (sharing_rule (m.upper k) m.lower (weight_of m k p ∷ []) m.lower_least);
-        demands = refl;
-      };
+      shared = λ k. subst (Shared (m.upper k) m.lower (weight_of m k p ∷ [])) (share_alone m k p) (sharing_rule (m.upper k) m.lower (weight_of m k p ∷ []) m.lower_least);
+      demands = refl;
     }
 
 run_push : (n : ℕ) (ps : List Period) (p : Period) → run_past n (ps ++ (p ∷ [])) ≡ run_on (run_past n ps) p
@@ -222,7 +219,7 @@ unread first until n m ps e =
       ends = refl;
       recorded = refl;
       six = λ few. absurd (omega (arith, few, e, leb-true 6 (run ps) late));
-      seventh = λ many. record { sort = refl; standing = refl };
+      seventh = λ many. (refl, refl);
     })
     (λ soon. record {
       period = with_standing (laid m 0 0 p) p;
@@ -230,7 +227,7 @@ unread first until n m ps e =
       begins = refl;
       ends = refl;
       recorded = refl;
-      six = λ few. alone first until m;
+      six = λ few. (refl, alone first until m);
       seventh = λ many. absurd (omega (arith, many, e, leb-false 6 (run ps) soon));
     })
 

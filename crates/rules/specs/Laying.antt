@@ -19,25 +19,16 @@ pub record ByMethod (m : Method) (old new : List Period) : Type 0 where
   pub shared : (k : Register) → Shared (m.upper k) m.lower (map (λ p. m.weight k (days p) p.recorded) old) (map (λ p. units k p.standing) new)
   pub demands : map (λ p. p.standing.demand) new ≡ map (λ p. m.demand (days p) p.recorded) old
 
--- an estimated period: what the method gives it alone
-pub record EstimatedBy (m : Method) (p : Period) : Type 0 where
-  pub sort : p.sort ≡ estimated
-  pub alone : ByMethod m (p ∷ []) (p ∷ [])
-
--- a period without energy
-pub record WithoutEnergy (p : Period) : Type 0 where
-  pub sort : p.sort ≡ no_energy
-  pub standing : p.standing ≡ zeros
-
--- one period more, on which nothing was recorded: an estimated one for the first six estimates since a bill, one without energy from then on
+-- one period more, on which nothing was recorded: the first six estimates since a bill are given what their method gives them alone, and
+-- from the seventh on nothing
 pub record Unread (first until estimates : ℕ) (m : Method) (old new : List Period) : Type 0 where
   pub period : Period
   pub added : new ≡ old ++ (period ∷ [])
   pub begins : period.first ≡ first
   pub ends : period.last ≡ until
   pub recorded : period.recorded ≡ zeros
-  pub six : estimates < 6 → EstimatedBy m period
-  pub seventh : 6 ≤ estimates → WithoutEnergy period
+  pub six : estimates < 6 → (period.sort ≡ estimated) × ByMethod m (period ∷ []) (period ∷ [])
+  pub seventh : 6 ≤ estimates → (period.sort ≡ no_energy) × (period.standing ≡ zeros)
 
 -- the rows of a finding's span, and of them those that it lays down anew: for the cause absent the estimated ones
 abbrev pub span_of : Finding → List Period → List Period
@@ -78,12 +69,10 @@ Lays o c before = LaysDown o c before (billed o before) (billed o (c ∷ before)
 
 -- a call lays registers down for a row: a bill or an estimate for the one that it adds, a correction for those of its span
 abbrev pub lays_for : Opening → Call → List Call → (row : ℕ) → Bool
-lays_for o (take now length) before row = false
-lays_for o (hand_back hold) before row = false
 lays_for o (bill hold last r) before row = row == length (billed o before)
 lays_for o (estimate hold last m) before row = row == length (billed o before)
 lays_for o (correct hold f m) before row = lays_anew f (billed o before) row
-lays_for o (pay hold cents) before row = false
+lays_for o c before row = false
 
 -- of the calls later, which came after those before, none lays any down for the row
 abbrev pub NoneLays : Opening → (row : ℕ) → (later before : List Call) → Type 0
