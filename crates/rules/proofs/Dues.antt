@@ -14,7 +14,7 @@ use Rattle.rules.specs.Owed.{billed, charged, Undercharge, undercharge, undercha
 use Rattle.rules.specs.Journal.{cents_of}
 use Rattle.rules.specs.Law.{Every}
 use Rattle.rules.specs.Machine.{empty, first_cents, moved_up, spread, posts, bill_row, effect}
-use Rattle.rules.proofs.Shares.{brought_none, brought_of_none, brought_more, brought_all, brought_late}
+use Rattle.rules.proofs.Shares.{brought_none, brought_of_none, brought_more, brought_all, brought_late, brought_whole}
 use Rattle.rules.proofs.Runs.{ran, rows_ran, Passed}
 use Rattle.rules.proofs.Holds.{answers}
 use Rattle.rules.proofs.Journal.{posts_changes, cents_changes}
@@ -40,8 +40,16 @@ bills_limit over s f ps h = omega (arith, leb-true (size f) 12 (and_parts f.asce
 bills_limit stopped s f ps h = omega (arith, leb-true (size f) 12 (and_parts (leb (size f) 12) (f.ascertained || row_is (has_day f.notice) ps f.first) h).0)
 bills_limit altered s f ps h = omega arith
 
+-- but over one at least
+bills_some : (c : Cause) (rows : ℕ) → 1 ≤ rows → 1 ≤ bills_of c rows
+bills_some absent rows h = omega arith
+bills_some under rows h = h
+bills_some over rows h = h
+bills_some stopped rows h = h
+bills_some altered rows h = omega arith
+
 -- from the thirteenth bill on nothing more comes
-none_late : (g : Undercharge → ℕ) → ((u : Undercharge) → u.over ≤ u.since → g u ≡ 0) → (t : Tariff) (o : Opening) (b : ℕ) (calls : List Call) → Every (Passed o) calls → 12 ≤ b → sum_of g (undercharges t o b calls) ≡ 0
+none_late : (g : Undercharge → ℕ) → ((u : Undercharge) → 1 ≤ u.over → u.over ≤ u.since → g u ≡ 0) → (t : Tariff) (o : Opening) (b : ℕ) (calls : List Call) → Every (Passed o) calls → 12 ≤ b → sum_of g (undercharges t o b calls) ≡ 0
 unfolding undercharges asked
 none_late g z t o b [] h k = refl
 none_late g z t o b (take now length ∷ before) h k = none_late g z t o b before h.1 k
@@ -49,17 +57,33 @@ none_late g z t o b (hand_back hold ∷ before) h k = none_late g z t o b before
 none_late g z t o b (bill hold last r ∷ before) h k = none_late g z t o (suc b) before h.1 (omega arith)
 none_late g z t o b (estimate hold last m ∷ before) h k = none_late g z t o (suc b) before h.1 (omega arith)
 none_late g z t o b (correct hold f m ∷ before) h k =
-    let seven = (answers o (correct hold f m) before h.0).1.1.1.1.0 in
-    let few : bills f ≤ 12 = bills_limit f.cause f.side f (billed o before) seven in
-    let none = z (record { cents = undercharge t o (correct hold f m) before; over = bills f; since = b }) (omega arith) in
+    let yes = answers o (correct hold f m) before h.0 in
+    let few : bills f ≤ 12 = bills_limit f.cause f.side f (billed o before) yes.1.1.1.1.0 in
+    let span : f.first ≤ f.last = leb-true f.first f.last (and_parts (leb f.first f.last) _ yes.1.1.0).0 in
+    let some : 1 ≤ bills f = bills_some f.cause (size f) (omega arith) in
+    let none = z (record { cents = undercharge t o (correct hold f m) before; over = bills f; since = b }) some (omega arith) in
     omega (arith, none, none_late g z t o b before h.1 k)
 none_late g z t o b (pay hold cents ∷ before) h k = none_late g z t o b before h.1 k
 
 brings_late : (t : Tariff) (o : Opening) (b : ℕ) (calls : List Call) → Every (Passed o) calls → 12 ≤ b → brings t o b calls ≡ 0
-brings_late = none_late _ (λ u h. omega (arith, brought_late u.cents u.over u.since h))
+brings_late = none_late _ (λ u some h. omega (arith, brought_late u.cents u.over u.since h))
 
 bringing_late : (t : Tariff) (o : Opening) (b : ℕ) (calls : List Call) → Every (Passed o) calls → 12 ≤ b → bringing t o b calls ≡ 0
-bringing_late = none_late _ (λ u h. cond-false {A = ℕ} _ 1 0 (and_right (ltb 0 u.cents) _ (le-ltb u.since u.over h)))
+bringing_late = none_late _ (λ u some h. cond-false {A = ℕ} _ 1 0 (and_right (ltb 0 u.cents) _ (le-ltb u.since u.over h)))
+
+not_due_late : (t : Tariff) (o : Opening) (b : ℕ) (calls : List Call) → Every (Passed o) calls → 12 ≤ b → not_yet_due t o b calls ≡ 0
+not_due_late = none_late _ (λ u some h. omega (arith, brought_whole u.cents u.over u.since some h))
+
+-- what is not yet due comes with the next bills, or after them
+comes_later : (t : Tariff) (o : Opening) (n b : ℕ) (calls : List Call) → not_yet_due t o b calls ≡ sum_of (λ i. i.cents) (instalments t o n b calls) + not_yet_due t o (b + n) calls
+unfolding instalments
+comes_later t o zero b calls = let e : b ≡ b + 0 = omega arith in omega (arith, ap (λ k. not_yet_due t o k calls) e)
+comes_later t o (suc n) b calls =
+    let e : suc b + n ≡ b + suc n = omega arith in
+    omega (arith, due_next t o b calls, comes_later t o n (suc b) calls, ap (λ k. not_yet_due t o k calls) e)
+
+pub comes_in_twelve : (t : Tariff) (o : Opening) (calls : List Call) → Every (Passed o) calls → not_yet_due t o 0 calls ≡ sum_of (λ i. i.cents) (instalments t o 12 0 calls)
+comes_in_twelve t o calls h = omega (arith, comes_later t o 12 0 calls, not_due_late t o 12 calls h (omega arith))
 
 abbrev placing : (cents count : ℕ) → Instalment
 placing cents count = record { cents = cents; count = count }

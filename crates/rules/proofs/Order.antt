@@ -1,7 +1,7 @@
 -- The periods that accepted calls give follow one another. Assumes nothing.
-use Rattle.std.proofs.Common.{◌≡◌, ℕ, suc, ◌+◌, true, List, [], ◌∷◌, ◌++◌, refl}
-use Rattle.std.proofs.lemmas.Bool.{cond_both}
-use Rattle.rules.specs.Subject.{Period, Finding, Method, day_weight, peak_weight, estimated, no_energy, Call, take, hand_back, bill, estimate, correct, pay, Opening}
+use Rattle.std.proofs.Common.{◌≡◌, ℕ, suc, ◌+◌, ◌-◌, leb, true, List, [], ◌∷◌, ◌++◌, refl}
+use Rattle.std.proofs.lemmas.Bool.{cond_both, leb-true, and_parts}
+use Rattle.rules.specs.Subject.{longest, Period, days, Finding, Method, day_weight, peak_weight, estimated, no_energy, Call, take, hand_back, bill, estimate, correct, pay, Opening}
 use Rattle.rules.specs.Laid.{next_day, is_late, laid, with_standing, metered, blank, without_reading, rewrites, corrected}
 use Rattle.rules.specs.Questions.{is_term, asked}
 use Rattle.rules.specs.Given.{give, given}
@@ -11,8 +11,10 @@ use Rattle.rules.proofs.Runs.{Passed}
 use Rattle.rules.proofs.Holds.{answers}
 
 order_push : (day : ℕ) (ps : List Period) (p : Period) → InOrder day ps → p.first ≡ next_day day ps → is_term p.first p.last ≡ true → InOrder day (ps ++ (p ∷ []))
-order_push day [] p h e t = (e, t, tt)
-order_push day (q ∷ ps) p h e t = (h.0, h.1, order_push (q.last + 1) ps p h.2 e t)
+order_push day [] p h e t =
+    let parts = and_parts (leb p.first p.last) (leb (p.last + 1 - p.first) longest) t in
+    (e, leb-true p.first p.last parts.0, leb-true (days p) longest parts.1, tt)
+order_push day (q ∷ ps) p h e t = (h.0, h.1, h.2, order_push (q.last + 1) ps p h.3 e t)
 
 order_unmetered : (o : Opening) (last : ℕ) (m : Method) (ps : List Period) → InOrder o.day ps → is_term (next_day o.day ps) last ≡ true → InOrder o.day (ps ++ (without_reading (next_day o.day ps) last m ps ∷ []))
 unfolding without_reading
@@ -29,8 +31,8 @@ unfolding corrected
 order_corrected f m row V W day [] h = tt
 order_corrected f m row V W day (p ∷ ps) h =
     cond_both (rewrites f row p) _ _ (InOrder day)
-    (λ e. (h.0, h.1, order_corrected f m (suc row) (V + day_weight m p) (W + peak_weight m p) (p.last + 1) ps h.2))
-    (λ e. (h.0, h.1, order_corrected f m (suc row) V W (p.last + 1) ps h.2))
+    (λ e. (h.0, h.1, h.2, order_corrected f m (suc row) (V + day_weight m p) (W + peak_weight m p) (p.last + 1) ps h.3))
+    (λ e. (h.0, h.1, h.2, order_corrected f m (suc row) V W (p.last + 1) ps h.3))
 
 pub in_order : (o : Opening) (calls : List Call) → Every (Passed o) calls → InOrder o.day (billed o calls)
 unfolding given give asked

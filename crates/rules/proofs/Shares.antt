@@ -69,10 +69,10 @@ pub brought_late : (u n b : ℕ) → n ≤ b → brought u n (suc b) ≡ brought
 unfolding brought
 brought_late u n b h = let e : min (suc b) n ≡ min b n = omega arith in ap (λ x. u * x / n) e
 
-pub brought_whole : (u n : ℕ) → 1 ≤ n → brought u n n ≡ u
+pub brought_whole : (u n b : ℕ) → 1 ≤ n → n ≤ b → brought u n b ≡ u
 unfolding brought
-brought_whole u n some =
-    let e : min n n ≡ n = omega arith in
+brought_whole u n b some past =
+    let e : min b n ≡ n = omega arith in
     ap (λ x. u * x / n) e ∙ mul-div_cancel u {n = n} some
 
 -- the rules
@@ -121,4 +121,4 @@ instalments_sum u n (suc k) =
     omega arith
 
 pub instalment_rule : InstalmentRule
-instalment_rule u n some = instalments_sum u n n ∙ brought_whole u n some
+instalment_rule u n some = instalments_sum u n n ∙ brought_whole u n n some (omega arith)
