@@ -11,3 +11,5 @@ pub mod memory;
 pub mod opening;
 pub mod paying;
 pub mod refusal;
+pub mod sheet;
+pub mod sums;
