@@ -1,7 +1,7 @@
 // Work over the rows of a sheet.
-pub mod asking;
-pub mod estimating;
-pub mod found;
-pub mod laying;
-pub mod relaying;
-pub mod spans;
+pub(crate) mod asking;
+pub(crate) mod estimating;
+pub(crate) mod found;
+pub(crate) mod laying;
+pub(crate) mod relaying;
+pub(crate) mod spans;

@@ -2,17 +2,17 @@
 ghost use Rattle.std.specs.Prelude.{◌*◌, ◌≤◌};
 ghost use Rattle.account.specs.Bounds.{Within, Low};
 
-pub mod bills;
+pub(crate) mod bills;
 pub mod coming;
-pub mod moves;
-pub mod spreading;
+pub(crate) mod moves;
+pub(crate) mod spreading;
 
 use crate::sums::coming::Coming;
 use figures::money::Money;
 
 /// Each line moves the balance by at most 10^12 cents; `lines` counts them.
 #[derive(Clone, Copy)]
-pub struct Sums {
+pub(crate) struct Sums {
     pub balance: Money,
     pub due: Money,
     pub coming: Coming,

@@ -11,7 +11,7 @@ use method::method::Method;
 
 impl<'a> Found<'a> {
     /// How many rows a correction rewrites.
-    pub fn count(&self) -> usize
+    pub(crate) fn count(&self) -> usize
         ensures value { result ≡ length (rewritten (finding_of self.now.finding) 0 (periods self.now.rows.now)) }
         ensures few { result ≤ length self.now.rows.now }
     {
@@ -55,7 +55,7 @@ impl<'a> Found<'a> {
 
     /// Whether every share of the rows that a correction rewrites keeps the limit. The rows are asked together first: that divides
     /// once for each register, and not once for each register of each row.
-    pub fn shares_fit<M: Method>(&self, m: &M) -> bool
+    pub(crate) fn shares_fit<M: Method>(&self, m: &M) -> bool
         ensures { result ≡ corrected_fit (finding_of self.now.finding) (M.Method.meaning m.now) (periods self.now.rows.now) }
     {
         self.fit_together(m) || self.each_fits(m)

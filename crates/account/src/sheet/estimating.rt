@@ -14,14 +14,14 @@ use method::method::Method;
 use tariff::tariff::{Tariff, charged};
 
 /// How many unmetered rows stand at the end.
-pub fn run(rows: &[Row]) -> usize
+pub(crate) fn run(rows: &[Row]) -> usize
     ensures { result ≡ run_of (periods rows.now) }
 {
     rows.iter().rev().take_while(|row| !row.is_read()).count()
 }
 
 /// A row of zeros.
-pub fn blank(term: Term, sort: Sort) -> Row
+pub(crate) fn blank(term: Term, sort: Sort) -> Row
     ensures { seen result ≡ record { period = blank_of term.first.figure term.last.figure (sort_of sort); cents = 0 } }
 {
     Row {
@@ -32,7 +32,7 @@ pub fn blank(term: Term, sort: Sort) -> Row
 }
 
 /// Whether the method's shares for this row alone keep the limit.
-pub fn share_fits<M: Method>(m: &M, row: &Row) -> bool
+pub(crate) fn share_fits<M: Method>(m: &M, row: &Row) -> bool
     ensures { result ≡ shares_fit (with_standing (laid (M.Method.meaning m.now) 0 0 (period_seen row.now)) (period_seen row.now)) }
 {
     alone(m, row).fit()
@@ -40,7 +40,12 @@ pub fn share_fits<M: Method>(m: &M, row: &Row) -> bool
 
 /// The unmetered row for a period, with its charge: the method's share for it alone, or zeros where it is late in its run.
 /// `late` is the answer to that one question, and no value goes with it.
-pub fn without_reading<T: Tariff, M: Method>(tariff: &mut T, m: &M, late: bool, term: Term) -> Row
+pub(crate) fn without_reading<T: Tariff, M: Method>(
+    tariff: &mut T,
+    m: &M,
+    late: bool,
+    term: Term,
+) -> Row
     requires { late ≡ false → shares_fit (unmetered_by late term.first.figure term.last.figure (M.Method.meaning m.now)) ≡ true }
     ensures row { seen result ≡ row_of (T.Tariff.meaning tariff.old) (unmetered_by late term.first.figure term.last.figure (M.Method.meaning m.now)) }
     ensures same { T.Tariff.meaning tariff.new ≡ T.Tariff.meaning tariff.old }

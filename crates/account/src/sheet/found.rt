@@ -9,7 +9,7 @@ use method::finding::Finding;
 /// A finding, and the rows that its questions are asked of, as many as a sheet holds. Its span may be any, since asking is what
 /// tells.
 #[derive(Clone, Copy)]
-pub struct Found<'a> {
+pub(crate) struct Found<'a> {
     pub finding: Finding,
     pub rows: &'a [Row],
     ghost few: { length rows.now ≤ 120 },

@@ -19,7 +19,7 @@ fn of_sort(c: Cause, s: Sort) -> bool
 
 impl<'a> Found<'a> {
     /// Whether the span is in order and its last row is there.
-    pub fn is_billed(&self) -> bool
+    pub(crate) fn is_billed(&self) -> bool
         ensures { result ≡ is_billed (finding_of self.now.finding) (periods self.now.rows.now) }
     {
         let span = self.finding.span;
@@ -47,7 +47,7 @@ impl<'a> Found<'a> {
     }
 
     /// Whether the rows are of the cause's sort, and for an absent reading no unmetered row that adjoins is left out.
-    pub fn sorts_right(&self) -> bool
+    pub(crate) fn sorts_right(&self) -> bool
         ensures { result ≡ sorts_right_of (finding_of self.now.finding) (periods self.now.rows.now) }
     {
         self.all_of_sort() && (self.finding.cause != Cause::Absent || self.none_left_out())
@@ -87,7 +87,7 @@ impl<'a> Found<'a> {
     }
 
     /// Whether the span keeps the rest of its cause's rule.
-    pub fn span_right(&self) -> bool
+    pub(crate) fn span_right(&self) -> bool
         ensures { result ≡ span_right_of (cause_of self.now.finding.cause) (side_of self.now.finding.side) (finding_of self.now.finding) (periods self.now.rows.now) }
     {
         let Finding {

@@ -32,7 +32,7 @@ impl Spreading {
 }
 
 impl Coming {
-    pub fn new() -> Coming
+    pub(crate) fn new() -> Coming
         ensures { result.places ≡ replicate 12 none }
     {
         Coming {
@@ -41,7 +41,7 @@ impl Coming {
     }
 
     /// The first is taken off, the others move up, and the twelfth, which is always there, becomes empty.
-    pub fn advance(&mut self)
+    pub(crate) fn advance(&mut self)
         ensures { map seen self.new.places ≡ moved_up (map seen self.old.places) }
     {
         self.places.rotate_left(1);
@@ -51,7 +51,7 @@ impl Coming {
     /// Raises the place of each bill that the undercharge is spread over by what that bill brings.
     /// How low the places are depends on the lines that `Sums` counts, so it is asked here. The places are cut by a slice:
     /// after `take` no proof knows what the places beyond hold.
-    pub fn spread(&mut self, s: Spreading)
+    pub(crate) fn spread(&mut self, s: Spreading)
         requires { Low self.old.places 1024 }
         ensures { map seen self.new.places ≡ spread_of s.cents.0 s.bills.count 1 (map seen self.old.places) }
     {
