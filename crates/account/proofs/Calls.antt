@@ -16,14 +16,14 @@ use Rattle.book.proofs.Room.{appended_room}
 use Rattle.figures.specs.View.{seen, line_seen}
 use Rattle.figures.specs.declared.row.Row.{Row}
 use Rattle.figures.specs.declared.line.Line.{Line}
-use Rattle.sheet.specs.Lines.{lines_of, Grown}
-use Rattle.sheet.proofs.Relaid.{grown_none, grown_more}
-use Rattle.sums.specs.View.{Totals, totals, nothing}
+use Rattle.account.specs.Lines.{lines_of, Grown}
+use Rattle.account.proofs.sheet.Relaid.{grown_none, grown_more}
+use Rattle.account.specs.Sums.{Totals, totals, nothing}
 use Rattle.rules.specs.Questions as Questions
 use Rattle.account.specs.declared.account.Account.{Account}
 use Rattle.account.specs.declared.refusal.Refusal.{Refusal}
 use Rattle.account.specs.declared.refusal.Refusal.TheVariants.{NoHold, Figures, SheetFull, Period, NotBilled, WrongSort, WrongSpan, NoFit, ShareTooLarge, JournalFull, Held, NoNumber}
-use Rattle.sheet.specs.Rows.{rows_of}
+use Rattle.account.specs.Rows.{rows_of}
 use Rattle.account.specs.Answers.{number_of, answered, Asked}
 use Rattle.account.specs.State.{hold_of, state_of, opening_of, Same, Stepped, Keeps, LawfulAfter, opened_over, Opened}
 use Rattle.account.specs.Work.{Changed}

@@ -12,8 +12,8 @@ use Rattle.rules.proofs.Spans.{six_corrected, rows_few}
 use Rattle.rules.proofs.Dues.{bills_limit}
 use Rattle.book.specs.Pages.{Pages, pages_of}
 use Rattle.figures.specs.declared.line.Line.{Line}
-use Rattle.sheet.specs.Lines.{Grown}
-use Rattle.sums.specs.View.{totals, corrected_by}
+use Rattle.account.specs.Lines.{Grown}
+use Rattle.account.specs.Sums.{totals, corrected_by}
 use Rattle.account.specs.declared.account.Account.{Account}
 use Rattle.account.specs.State.{state_of, opening_of}
 use Rattle.rules.proofs.Holds.{all_yes}

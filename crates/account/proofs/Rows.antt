@@ -10,8 +10,8 @@ use Rattle.rules.proofs.Spans.{six_push}
 use Rattle.book.specs.Pages.{Pages, pages_of, written}
 use Rattle.figures.specs.View.{seen, period_seen}
 use Rattle.figures.specs.declared.row.Row.{Row}
-use Rattle.sheet.specs.Rows.{rows_of}
-use Rattle.sums.specs.View.{totals, billed_by}
+use Rattle.account.specs.Rows.{rows_of}
+use Rattle.account.specs.Sums.{totals, billed_by}
 use Rattle.account.specs.declared.account.Account.{Account}
 use Rattle.account.specs.State.{state_of}
 use Rattle.account.proofs.Calls.{rows_length, made}

@@ -9,9 +9,9 @@ use Rattle.rules.specs.Machine.{step}
 use Rattle.book.specs.Pages.{pages_of, OneMemory}
 use Rattle.figures.specs.declared.row.Row.{Row}
 use Rattle.figures.specs.declared.line.Line.{Line}
-use Rattle.sheet.specs.Lines.{lines_of}
-use Rattle.sheet.specs.Rows.{rows_of}
-use Rattle.sums.specs.Bounds as sums
+use Rattle.account.specs.Lines.{lines_of}
+use Rattle.account.specs.Rows.{rows_of}
+use Rattle.account.specs.Bounds as sums
 use Rattle.account.specs.declared.account.Hold.{Hold}
 use Rattle.account.specs.declared.account.Account.{Account}
 

@@ -3,9 +3,9 @@ use Rattle.std.specs.Prelude.{◌≡◌, ◌+◌, ◌<◌, ◌≤◌, List, leng
 use Rattle.rules.specs.Subject.{Tariff}
 use Rattle.rules.specs.Shown as show
 use Rattle.book.specs.Pages.{pages_of}
-use Rattle.sheet.specs.Lines.{Grown}
-use Rattle.sheet.specs.Rows.{rows_of}
-use Rattle.sums.specs.View.{Totals, totals}
+use Rattle.account.specs.Lines.{Grown}
+use Rattle.account.specs.Rows.{rows_of}
+use Rattle.account.specs.Sums.{Totals, totals}
 use Rattle.account.specs.declared.account.Account.{Account}
 use Rattle.account.specs.State.{OverTheSame}
 

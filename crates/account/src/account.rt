@@ -2,13 +2,13 @@
 ghost use Rattle.std.specs.Prelude.{◌≡◌, min, length, true};
 ghost use Rattle.rules.specs.Laid.{six_at_most};
 ghost use Rattle.book.specs.Pages.{pages_of};
-ghost use Rattle.sheet.specs.Rows.{filled_periods};
+ghost use Rattle.account.specs.Rows.{filled_periods};
 
+use crate::sums::Sums;
 use book::kept::Book;
 use figures::dates::Day;
 use figures::line::Line;
 use figures::row::Row;
-use sums::sums::Sums;
 
 /// A clerk's right to change the account, until another take from that second on.
 #[derive(Clone, Copy)]

@@ -5,19 +5,19 @@ ghost use Rattle.rules.specs.Questions.{question, first_no, rows_asked, bills as
 ghost use Rattle.rules.specs.Laid.{rewritten};
 ghost use Rattle.rules.specs.Machine.{view};
 ghost use Rattle.method.specs.Uses.{finding_of};
-ghost use Rattle.sheet.specs.Rows.{periods};
+ghost use Rattle.account.specs.Rows.{periods};
 ghost use Rattle.account.specs.State.{state_of, opening_of, Stepped, LawfulAfter};
 ghost use Rattle.account.specs.Answers.{Asked, corrected_answer};
 
 use crate::account::Account;
 use crate::refusal::Refusal;
+use crate::sheet::found::Found;
+use crate::sheet::relaying;
+use crate::sums::bills::Bills;
 use figures::dates::Day;
 use figures::money::Money;
 use method::finding::{Cause, Finding, Use};
 use method::method::{Method, may_serve};
-use sheet::found::Found;
-use sheet::relaying;
-use sums::bills::Bills;
 use tariff::tariff::Tariff;
 
 /// Over how many bills an undercharge is spread.

@@ -10,12 +10,12 @@ ghost use Rattle.account.specs.Answers.{Asked, billed_answer};
 
 use crate::account::Account;
 use crate::refusal::Refusal;
+use crate::sheet::estimating;
 use figures::dates::{Day, Term};
 use figures::money::Charge;
 use figures::row::Sort;
 use method::finding::{Span, Use};
 use method::method::{Method, may_serve};
-use sheet::estimating;
 use tariff::tariff::Tariff;
 
 /// An estimate that every question has passed; late from the seventh unmetered row of a run on, a flag with no value of its own.

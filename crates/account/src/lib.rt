@@ -2,6 +2,7 @@
 #![tactic(auto)]
 
 pub mod account;
+pub(crate) mod amounts;
 pub mod asking;
 pub mod billing;
 pub mod correcting;
@@ -11,3 +12,5 @@ pub mod memory;
 pub mod opening;
 pub mod paying;
 pub mod refusal;
+pub(crate) mod sheet;
+pub mod sums;

@@ -2,21 +2,21 @@
 ghost use Rattle.std.specs.Prelude.{◌≡◌, map, pos, OnErr};
 ghost use Rattle.rules.specs.Questions.{first_no, opening_asked};
 ghost use Rattle.figures.specs.View.{seen, line_seen};
-ghost use Rattle.sums.specs.Bounds.{seen as instalment_seen};
+ghost use Rattle.account.specs.Bounds.{seen as instalment_seen};
 ghost use Rattle.account.specs.State.{hold_of, state_of, Opened, OverSlices};
 ghost use Rattle.account.specs.Answers.{opened_answer, Asked};
 
 use crate::account::{Account, Hold};
 use crate::memory::Memory;
 use crate::refusal::Refusal;
+use crate::sums::Sums;
+use crate::sums::coming::Coming;
 use book::kept::Book;
 use figures::dates::Day;
 use figures::line::Line;
 use figures::money::Money;
 use figures::row::Row;
 use std::mem;
-use sums::coming::Coming;
-use sums::sums::Sums;
 use tariff::tariff::Tariff;
 
 /// The most rows that a sheet takes, and the most lines that a journal takes.

@@ -8,7 +8,7 @@ use Rattle.rules.specs.Law.{Law}
 use Rattle.figures.specs.View.{seen, line_seen}
 use Rattle.figures.specs.declared.row.Row.{Row}
 use Rattle.figures.specs.declared.line.Line.{Line}
-use Rattle.sums.specs.Bounds as sums
+use Rattle.account.specs.Bounds as sums
 use Rattle.account.specs.declared.account.Account.{Account}
 use Rattle.account.specs.State.{state_of, opened_over}
 use Rattle.account.proofs.Calls.{rows_length, lines_length}

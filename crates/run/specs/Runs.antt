@@ -8,7 +8,7 @@ use Rattle.rules.specs.Journal.{takes, standing_hold}
 use Rattle.rules.specs.Law.{Law}
 use Rattle.rules.specs.Machine.{step}
 use Rattle.figures.specs.View.{reading_of, seen, line_seen}
-use Rattle.sums.specs.Bounds as sums
+use Rattle.account.specs.Bounds as sums
 use Rattle.figures.specs.declared.row.Row.{Row}
 use Rattle.figures.specs.declared.line.Line.{Line}
 use Rattle.method.specs.Uses.{finding_of}

@@ -10,10 +10,10 @@ use crate::run::serve_all;
 use account::account::Account;
 use account::memory::Memory;
 use account::refusal::Refusal;
+use account::sums::coming::Coming;
 use figures::line::Line;
 use figures::money::Money;
 use figures::row::Row;
-use sums::coming::Coming;
 use tariff::tariff::Tariff;
 
 /// What a run leaves beside the rows and the lines: the sums, and how many places of each memory it filled.

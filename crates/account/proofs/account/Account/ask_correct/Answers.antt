@@ -3,7 +3,7 @@ use Rattle.rules.specs.Laid.{rewritten}
 use Rattle.rules.specs.Questions.{asked, first_no, rows_asked, journal_room}
 use Rattle.rules.specs.Machine.{period_of, periods_of}
 use Rattle.method.specs.Uses.{finding_of}
-use Rattle.sheet.proofs.Listed.{rewritten_few}
+use Rattle.account.proofs.sheet.Listed.{rewritten_few}
 use Rattle.account.specs.State.{state_of, opening_of}
 use Rattle.account.specs.Answers.{number_of}
 use Rattle.account.specs.declared.refusal.Refusal.TheVariants.{Figures}

@@ -5,7 +5,7 @@ use Rattle.rules.specs.Journal.{cents_of}
 use Rattle.rules.specs.Machine.{posts}
 use Rattle.rules.proofs.Runs.{length-posts}
 use Rattle.method.specs.Uses.{finding_of}
-use Rattle.sums.specs.View.{Totals}
+use Rattle.account.specs.Sums.{Totals}
 use Rattle.account.specs.State.{state_of, opening_of}
 use Rattle.account.proofs.Calls.{refused_by, changed_done, grown_limit}
 use Rattle.account.proofs.Corrections.{correct_yes, corrected_is, added, runs_relaid}

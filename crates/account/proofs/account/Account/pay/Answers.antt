@@ -2,7 +2,7 @@ use Rattle.std.proofs.Common.{◌≡◌, ℕ, ◌+◌, [], ◌∷◌, ℤ, pos, 
 use Rattle.rules.specs.Subject.{pay}
 use Rattle.rules.specs.Shown as show
 use Rattle.rules.specs.Machine.{effect}
-use Rattle.sums.specs.View.{Totals, totals, paid_by}
+use Rattle.account.specs.Sums.{Totals, totals, paid_by}
 use Rattle.account.proofs.Calls.{refused_by, appended_by, grown_by, grown_limit, changed_done}
 use Rattle.account.proofs.account.Account.pay.Goals as goal
 

@@ -1,0 +1,7 @@
+use Rattle.std.proofs.Common.{rules}
+use Rattle.rules.specs.Subject.{unmetered}
+use Rattle.account.proofs.sheet.Tested.{row_asked}
+use Rattle.account.proofs.sheet.found.Found.unmetered_at.Goals as goal
+
+pub returns : goal.returns
+returns c = row_asked unmetered c.args.self.now.rows.now c.args.row c.get.result _ c.get.ensures.lookup (search rules)

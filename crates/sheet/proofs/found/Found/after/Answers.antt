@@ -1,6 +1,0 @@
-use Rattle.std.proofs.Common.{rules}
-use Rattle.sheet.proofs.Tested.{row_beyond}
-use Rattle.sheet.proofs.found.Found.after.Goals as goal
-
-pub returns : goal.returns
-returns c test = row_beyond test c.args.self.now.rows.now _ c.args.self.now.finding.span.last (search rules)

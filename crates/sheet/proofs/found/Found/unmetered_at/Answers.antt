@@ -1,7 +1,0 @@
-use Rattle.std.proofs.Common.{rules}
-use Rattle.rules.specs.Subject.{unmetered}
-use Rattle.sheet.proofs.Tested.{row_asked}
-use Rattle.sheet.proofs.found.Found.unmetered_at.Goals as goal
-
-pub returns : goal.returns
-returns c = row_asked unmetered c.args.self.now.rows.now c.args.row c.get.result _ c.get.ensures.lookup (search rules)

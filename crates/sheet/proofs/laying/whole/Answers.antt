@@ -1,7 +1,0 @@
-use Rattle.std.proofs.Common.{refl}
-use Rattle.rules.specs.Sharing.{whole}
-use Rattle.sheet.proofs.laying.whole.Goals as goal
-
-pub returns : goal.returns
-unfolding whole
-returns c = refl
