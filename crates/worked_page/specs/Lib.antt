@@ -1,1 +1,4 @@
-pub mod Page
+pub mod Pages
+pub mod Session
+pub mod Year
+pub mod YearRows

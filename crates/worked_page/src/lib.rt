@@ -1,11 +1,14 @@
-// The worked page: what the definitions give for a text that was worked out by hand.
+// Worked pages: what the definitions give for texts that were worked out by hand.
 #![tactic(auto)]
 
-ghost use Rattle.worked_page.specs.Page.{WorkedPage, WorkedRows, YearPage};
+ghost use Rattle.worked_page.specs.Session.{WorkedPage, WorkedRows};
+ghost use Rattle.worked_page.specs.Year.{YearPage};
+ghost use Rattle.worked_page.specs.YearRows.{YearRows};
 
-/// For the worked text the definitions give the worked page, byte for byte, and the worked rows behind it.
+/// For each worked text the definitions give the worked page, byte for byte, and the worked rows behind it.
 pub fn worked_page_stands()
     ensures page { WorkedPage }
     ensures rows { WorkedRows }
-    ensures year { YearPage }
+    ensures year_page { YearPage }
+    ensures year_rows { YearRows }
 {}
