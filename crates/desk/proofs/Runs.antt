@@ -1,8 +1,7 @@
 -- An account follows the run of the calls that lines make. Assumes nothing.
 use Rattle.std.proofs.Common.{◌≡◌, ℕ, List, map, ℤ, Ok, Err, Result, refl, ap, ◌∙◌}
 use Rattle.rules.specs.Subject.{Period, Tariff, Call, Opening}
-use Rattle.rules.specs.Given.{accepted}
-use Rattle.rules.specs.Owed.{billed}
+use Rattle.rules.specs.Given.{accepted, billed}
 use Rattle.rules.specs.Law.{Law}
 use Rattle.rules.specs.Machine.{period_of, periods_of}
 use Rattle.rules.proofs.Runs.{rows_periods}

@@ -1,8 +1,7 @@
 -- The run of calls that an account follows, and the lines that are served to it. Histories are newest first. Assumes nothing.
 use Rattle.std.specs.Prelude.{◌≡◌, ℕ, List, ℤ, Result}
 use Rattle.rules.specs.Subject.{Tariff, Call, Opening}
-use Rattle.rules.specs.Given.{accepted}
-use Rattle.rules.specs.Owed.{billed}
+use Rattle.rules.specs.Given.{accepted, billed}
 use Rattle.account.specs.declared.account.Account.{Account}
 use Rattle.account.specs.State.{opening_of, Keeps}
 use Rattle.events.specs.Events.{event_of}

@@ -4,8 +4,7 @@ use Rattle.std.proofs.lemmas.Bool.{cond_both, and_parts, and_from}
 use Rattle.rules.specs.Subject.{Registers, estimated, no_energy, Period, is_read, Finding, Method, day_weight, peak_weight, Call, take as taken, hand_back, bill, estimate, correct, pay, Opening}
 use Rattle.rules.specs.Laid.{next_day, is_late, laid, with_standing, blank, metered, without_reading, rewrites, corrected}
 use Rattle.rules.specs.Questions.{is_day, is_reading, is_term, every, asked}
-use Rattle.rules.specs.Given.{give, given, accepted}
-use Rattle.rules.specs.Owed.{billed}
+use Rattle.rules.specs.Given.{given, accepted, billed}
 use Rattle.rules.specs.Law.{Every}
 use Rattle.rules.proofs.Journal.{Each}
 use Rattle.rules.proofs.Runs.{Passed, accepted_passed}
@@ -42,7 +41,7 @@ each_corrected f m row V W (p ∷ ps) all =
     (λ e. (all.0, each_corrected f m (suc row) V W ps all.1))
 
 each_billed : (o : Opening) (calls : List Call) → Every (Passed o) calls → Each BySort (billed o calls)
-unfolding given give asked
+unfolding billed asked
 each_billed o [] h = tt
 each_billed o (taken now span ∷ before) h = each_billed o before h.1
 each_billed o (hand_back hold ∷ before) h = each_billed o before h.1

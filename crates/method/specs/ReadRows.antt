@@ -2,8 +2,7 @@
 use Rattle.std.specs.Prelude.{◌≡◌, ℕ, Bool, ◌&&◌, List, length, ◌==◌}
 use Rattle.rules.specs.Subject.{Period, is_read, Call, Opening}
 use Rattle.rules.specs.Questions.{every}
-use Rattle.rules.specs.Given.{accepted}
-use Rattle.rules.specs.Owed.{billed}
+use Rattle.rules.specs.Given.{accepted, billed}
 use Rattle.method.specs.Three.{three_from, are_three}
 
 -- there are three, and by their sorts all were read

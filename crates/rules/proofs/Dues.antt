@@ -8,9 +8,9 @@ use Rattle.rules.specs.Subject.{Period, Tariff, Cause, absent, under, over, stop
 use Rattle.rules.specs.Sharing.{sum_of, brought, instalment}
 use Rattle.rules.specs.Laid.{corrected}
 use Rattle.rules.specs.Questions.{size, bills_of, bills, span_right, row_is, has_day, asked}
-use Rattle.rules.specs.Given.{give, given}
+use Rattle.rules.specs.Given.{billed}
 use Rattle.rules.specs.Shown.{row_of, Instalment, State}
-use Rattle.rules.specs.Owed.{billed, charged, Undercharge, undercharge, undercharges, not_yet_due, brings, bringing, instalments}
+use Rattle.rules.specs.Owed.{charged, Undercharge, undercharge, undercharges, not_yet_due, brings, bringing, instalments}
 use Rattle.rules.specs.Journal.{cents_of}
 use Rattle.rules.specs.Law.{Every}
 use Rattle.rules.specs.Machine.{empty, first_cents, moved_up, spread, posts, bill_row, effect}
@@ -187,7 +187,7 @@ placed_correct t o calls calls' false x old new n e h g c is k =
     (λ b. sym (c b ∙ ap (λ v. cond (ltb 0 v && ltb b n) 1 0 + bringing t o b calls) u ∙ omega arith)) 0 is k
 
 kept_step : (t : Tariff) (o : Opening) (c : Call) (before : List Call) (s : State) → Every (Passed o) before → s.rows ≡ map (row_of t) (billed o before) → Kept t o before s → Kept t o (c ∷ before) (effect t o s c)
-unfolding effect undercharges given give
+unfolding effect undercharges billed
 kept_step t o (take now length) before s h rs k = record { due = k.due; twelve = k.twelve; placed = placed_same t o before (take now length ∷ before) (λ b. refl) (λ b. refl) 0 s.coming k.placed }
 kept_step t o (hand_back hold) before s h rs k = record { due = k.due; twelve = k.twelve; placed = placed_same t o before (hand_back hold ∷ before) (λ b. refl) (λ b. refl) 0 s.coming k.placed }
 kept_step t o (bill hold last r) before s h rs k = kept_bill t o before (bill hold last r ∷ before) s hold _ (λ b. refl) (λ b. refl) refl (brings_late t o 12 before h (omega arith)) (bringing_late t o 12 before h (omega arith)) k

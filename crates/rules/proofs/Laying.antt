@@ -7,8 +7,7 @@ use Rattle.rules.specs.Subject.{Register, day_units, peak_units, units, Sort, es
 use Rattle.rules.specs.Sharing.{share, shares, Shared}
 use Rattle.rules.specs.Laid.{next_day, run_on, run_past, run, laid, with_standing, blank, is_late, without_reading, in_span, rewrites_sort, rewrites, rewritten, corrected}
 use Rattle.rules.specs.Questions.{is_absent, row_is}
-use Rattle.rules.specs.Given.{give, given}
-use Rattle.rules.specs.Owed.{billed}
+use Rattle.rules.specs.Given.{billed}
 use Rattle.rules.specs.Law.{Every}
 use Rattle.rules.specs.Laying.{estimates_since_bill, Unread, laid_anew, without_standing, ByMethod, CorrectedBy, Lays, lays_for, StandsAsLaid}
 use Rattle.rules.proofs.Shares.{sharing_rule}
@@ -197,7 +196,7 @@ run_corrected f m ps = sym (run_kept 0 (corrected f m 0 0 0 ps)) ∙ ap (run_pas
 
 -- the run at the end of the periods is the estimates since the last bill
 run_counted : (o : Opening) (calls : List Call) → run (billed o calls) ≡ estimates_since_bill calls
-unfolding given give
+unfolding billed
 run_counted o [] = refl
 run_counted o (take now length ∷ before) = run_counted o before
 run_counted o (hand_back hold ∷ before) = run_counted o before
@@ -232,7 +231,7 @@ unread first until n m ps e =
     })
 
 pub lays_down : (o : Opening) (c : Call) (before : List Call) → Lays o c before
-unfolding given give
+unfolding billed
 lays_down o (take now length) before = refl
 lays_down o (hand_back hold) before = refl
 lays_down o (bill hold last r) before = refl
@@ -261,7 +260,7 @@ fewer row ps q h e = let long = length_push ps q in let other = eqb-false row (l
 -- where a call lays none down for a row, the row was there before it and is as it was
 left_as : (o : Opening) (c : Call) (before : List Call) (row : ℕ) → row < length (billed o (c ∷ before)) → lays_for o c before row ≡ false →
     (row < length (billed o before)) × (slice_get (billed o (c ∷ before)) row ≡ slice_get (billed o before) row)
-unfolding given give
+unfolding billed
 left_as o (take now length) before row h e = (h, refl)
 left_as o (hand_back hold) before row h e = (h, refl)
 left_as o (bill hold last r) before row h e = (fewer row (billed o before) _ h e, push_at (billed o before) _ row (eqb-false row _ e))
@@ -271,7 +270,7 @@ left_as o (correct hold f m) before row h e =
 left_as o (pay hold cents) before row h e = (h, refl)
 
 pub stand_all : (o : Opening) (calls : List Call) (row : ℕ) → row < length (billed o calls) → StandsAsLaid o calls row
-unfolding given
+unfolding billed
 stand_all o [] row h = absurd (omega (arith, h))
 stand_all o (c ∷ before) row h =
     elim (cases_Bool (lays_for o c before row)) [

@@ -4,8 +4,7 @@ use Rattle.std.proofs.lemmas.Bool.{cond_both, leb-true, and_parts}
 use Rattle.rules.specs.Subject.{longest, Period, days, Finding, Method, day_weight, peak_weight, estimated, no_energy, Call, take, hand_back, bill, estimate, correct, pay, Opening}
 use Rattle.rules.specs.Laid.{next_day, is_late, laid, with_standing, metered, blank, without_reading, rewrites, corrected}
 use Rattle.rules.specs.Questions.{is_term, asked}
-use Rattle.rules.specs.Given.{give, given}
-use Rattle.rules.specs.Owed.{billed}
+use Rattle.rules.specs.Given.{billed}
 use Rattle.rules.specs.Law.{Every, InOrder}
 use Rattle.rules.proofs.Runs.{Passed}
 use Rattle.rules.proofs.Holds.{answers}
@@ -35,7 +34,7 @@ order_corrected f m row V W day (p ∷ ps) h =
     (λ e. (h.0, h.1, h.2, order_corrected f m (suc row) V W (p.last + 1) ps h.3))
 
 pub in_order : (o : Opening) (calls : List Call) → Every (Passed o) calls → InOrder o.day (billed o calls)
-unfolding given give asked
+unfolding billed asked
 in_order o [] h = tt
 in_order o (take now length ∷ before) h = in_order o before h.1
 in_order o (hand_back hold ∷ before) h = in_order o before h.1

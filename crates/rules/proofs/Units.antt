@@ -4,8 +4,7 @@ use Rattle.std.proofs.lemmas.Bool.{cond_both, leb-false, and_parts, false≢true
 use Rattle.rules.specs.Subject.{zeros, no_energy, estimated, Period, unmetered, Tariff, Cause, absent, under, over, stopped, altered, Finding, Method, day_weight, peak_weight, Call, take, hand_back, bill, estimate, correct, pay, Opening}
 use Rattle.rules.specs.Laid.{next_day, run_on, run_past, run, is_late, laid, with_standing, blank, without_reading, in_span, rewrites_sort, rewrites, corrected}
 use Rattle.rules.specs.Questions.{of_sort, every, asked}
-use Rattle.rules.specs.Given.{give, given}
-use Rattle.rules.specs.Owed.{billed}
+use Rattle.rules.specs.Given.{billed}
 use Rattle.rules.specs.Law.{Every, NoneFromSeventh}
 use Rattle.rules.proofs.Runs.{Passed}
 use Rattle.rules.proofs.Holds.{answers}
@@ -60,7 +59,7 @@ sealed_corrected f m n row V W (p ∷ ps) right s =
     (λ e. (s.0, sealed_corrected f m (run_on n p) (suc row) V W ps parts.1 s.1))
 
 all_sealed : (o : Opening) (calls : List Call) → Every (Passed o) calls → Sealed 0 (billed o calls)
-unfolding given give asked
+unfolding billed asked
 all_sealed o [] h = tt
 all_sealed o (take now length ∷ before) h = all_sealed o before h.1
 all_sealed o (hand_back hold ∷ before) h = all_sealed o before h.1

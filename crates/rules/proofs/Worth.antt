@@ -4,19 +4,17 @@ use Rattle.std.proofs.lemmas.Int.{ints}
 use Rattle.rules.specs.Subject.{Period, Tariff, charge, Call, take, hand_back, bill, estimate, correct, pay, Opening}
 use Rattle.rules.specs.Laid.{next_day, metered, without_reading}
 use Rattle.rules.specs.Questions.{Books, question}
-use Rattle.rules.specs.Given.{give, given, accepted}
+use Rattle.rules.specs.Given.{given, accepted, billed}
 use Rattle.rules.specs.Shown.{Answer, State}
-use Rattle.rules.specs.Owed.{billed}
 use Rattle.rules.specs.Journal.{cents_of}
 use Rattle.rules.specs.Law.{worth_of, answer_to}
 use Rattle.rules.specs.Machine.{view, posts, worth, step}
 use Rattle.rules.proofs.Runs.{of_cond, after, ran, view_ran, rows_ran, after_ran}
-use Rattle.rules.proofs.Holds.{granted_takes}
 use Rattle.rules.proofs.Journal.{posts_changes, cents_changes, charged_one}
 
 worth_ran : (t : Tariff) (o : Opening) (c : Call) (calls : List Call) → worth t o (ran t o calls) c ≡ worth_of t o c calls
-unfolding given give
-worth_ran t o (take now length) calls = ap (λ n. pos (n + 1)) (ap (λ (b : Books). b.granted) (view_ran t o calls) ∙ granted_takes o calls)
+unfolding billed
+worth_ran t o (take now length) calls = ap (λ n. pos (n + 1)) (ap (λ (b : Books). b.granted) (view_ran t o calls))
 worth_ran t o (hand_back hold) calls = refl
 worth_ran t o (bill hold last r) calls =
     let ps = billed o calls in

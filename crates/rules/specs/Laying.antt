@@ -4,7 +4,7 @@ use Rattle.rules.specs.Subject.{zeros, Register, units, read, estimated, no_ener
 use Rattle.rules.specs.Sharing.{Shared}
 use Rattle.rules.specs.Laid.{next_day}
 use Rattle.rules.specs.Questions.{is_absent, row_is}
-use Rattle.rules.specs.Owed.{billed}
+use Rattle.rules.specs.Given.{billed}
 
 -- the estimates accepted since the last accepted bill
 abbrev pub estimates_since_bill : List Call → ℕ

@@ -2,9 +2,8 @@
 use Rattle.std.specs.Prelude.{◌≡◌, ℕ, ◌≤◌, List, [], ◌∷◌, map, length, take, drop}
 use Rattle.rules.specs.Subject as rules
 use Rattle.rules.specs.Subject.{Tariff, Method, Call}
-use Rattle.rules.specs.Given.{accepted}
+use Rattle.rules.specs.Given.{accepted, takes, standing_hold}
 use Rattle.rules.specs.Shown.{State}
-use Rattle.rules.specs.Journal.{takes, standing_hold}
 use Rattle.rules.specs.Law.{Law}
 use Rattle.rules.specs.Machine.{step}
 use Rattle.figures.specs.View.{reading_of, seen, line_seen}

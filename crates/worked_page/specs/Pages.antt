@@ -2,9 +2,8 @@
 use Rattle.std.specs.Prelude.{◌≡◌, ℕ, List, [], ◌∷◌, ◌++◌, map, codes}
 use Prim.Native.String.{String}
 use Rattle.rules.specs.Subject.{Registers, Sort}
-use Rattle.rules.specs.Given.{accepted}
+use Rattle.rules.specs.Given.{accepted, billed}
 use Rattle.rules.specs.Shown.{Row, row_of}
-use Rattle.rules.specs.Owed.{billed}
 use Rattle.tariff.specs.Hotel.{numbered}
 use Rattle.events.specs.Lines.{lines}
 use Rattle.statements.specs.Statement.{calls, result_text}

@@ -2,9 +2,9 @@ use Rattle.std.proofs.Common.{refl}
 use Rattle.rules.specs.Sharing.{whole, brought}
 use Rattle.rules.specs.Laid.{rewritten, corrected}
 use Rattle.rules.specs.Questions.{asked}
-use Rattle.rules.specs.Given.{give, given}
+use Rattle.rules.specs.Given.{given}
 use Rattle.worked.proofs.worked_figures_stand.Goals as goal
 
 pub returns : goal.returns
-unfolding whole brought rewritten corrected asked give given
+unfolding whole brought rewritten corrected asked billed used
 returns c = refl
