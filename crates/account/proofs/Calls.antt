@@ -38,10 +38,6 @@ lines_length a = let b = a.journal in taken_length line_seen b.filled b.memory.n
 pub rows_length : {T : Type 0} (a : Account T) → length (rows_of (pages_of a.sheet)) ≡ a.sheet.filled
 rows_length a = let b = a.sheet in taken_length seen b.filled b.memory.now (omega (arith, b.within_limit, b.within_memory))
 
--- a sheet has at most 120 rows
-pub rows_few : {T : Type 0} (a : Account T) (rows : List Row) → map seen rows ≡ (state_of a).rows → length rows ≤ 120
-rows_few a rows e = let s = a.sheet.within_limit in let l = a.sheet_limit in omega (arith, sym (length-map rows seen) ∙ ap length e ∙ rows_length a)
-
 pub periods_length : {T : Type 0} (a : Account T) → length (periods_of (state_of a)) ≡ a.sheet.filled
 periods_length a = length-map (rows_of (pages_of a.sheet)) _ ∙ rows_length a
 

@@ -53,10 +53,9 @@ impl<'a, T> Account<'a, T> {
 
     /// Whether the journal has places for n lines.
     pub(crate) fn journal_takes(&self, n: usize) -> Result<(), Refusal>
-        requires { n ≤ 120 }
         ensures { Says (nat_le (length (state_of self.now).lines + n) (journal_room (opening_of self.now))) (λ _. self.now.journal.filled + n ≤ self.now.journal.limit) JournalFull result }
     {
-        if self.journal.filled + n <= self.journal.limit {
+        if n <= self.journal.free() {
             Ok(())
         } else {
             Err(Refusal::JournalFull)

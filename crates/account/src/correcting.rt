@@ -78,8 +78,8 @@ impl<'a, T: Tariff> Account<'a, T> {
         ensures law { LawfulAfter T.Tariff.meaning self.old self.new (correct hold (finding_of f) (M.Method.meaning m.now)) (corrected_answer result) }
     {
         let hold = self.ask_correct(hold, f, m)?;
-        let before = self.journal.filled;
-        let u = relaying::relay_sheet(
+        let before = self.journal.len();
+        let u = relaying::relay(
             &mut self.tariff,
             m,
             f,
@@ -88,7 +88,7 @@ impl<'a, T: Tariff> Account<'a, T> {
             &mut self.journal,
         );
         // counted where they were written, so that the sums rest on the journal itself
-        let lines = (self.journal.filled - before) as u32;
+        let lines = (self.journal.len() - before) as u32;
         self.sums.correct(u, bills(f), lines);
         Ok(u)
     }

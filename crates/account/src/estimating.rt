@@ -66,7 +66,7 @@ impl<'a, T: Tariff> Account<'a, T> {
         self.sheet_takes()?;
         let term = self.next_term(last)?;
         let late = self.is_late();
-        ask_share(m, late, self.sheet.filled as u64, term)?;
+        ask_share(m, late, self.sheet.len() as u64, term)?;
         self.journal_takes(1)?;
         Ok(Estimating { hold, term, late })
     }

@@ -61,8 +61,8 @@ impl<'a, T: Tariff> Account<'a, T> {
             journal,
             ..
         } = self;
-        memory.sheet = sheet.memory;
-        memory.journal = journal.memory;
+        memory.sheet = sheet.into_memory();
+        memory.journal = journal.into_memory();
     }
 }
 

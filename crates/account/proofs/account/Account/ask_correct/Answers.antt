@@ -1,19 +1,13 @@
-use Rattle.std.proofs.Common.{◌≡◌, ◌+◌, leb, [], ◌∷◌, map, length, sym, refl, ap, ◌∙◌, arith}
+use Rattle.std.proofs.Common.{◌≡◌, ◌+◌, leb, [], ◌∷◌, map, length, sym, refl, ap, ◌∙◌}
 use Rattle.rules.specs.Laid.{rewritten}
 use Rattle.rules.specs.Questions.{asked, first_no, rows_asked, journal_room}
 use Rattle.rules.specs.Machine.{period_of, periods_of}
 use Rattle.method.specs.Uses.{finding_of}
-use Rattle.account.proofs.sheet.Listed.{rewritten_few}
 use Rattle.account.specs.State.{state_of, opening_of}
 use Rattle.account.specs.Answers.{number_of}
 use Rattle.account.specs.declared.refusal.Refusal.TheVariants.{Figures}
-use Rattle.account.proofs.Calls.{pass, stop, asked_err, number_least, more_asked, all_asked, rows_few}
+use Rattle.account.proofs.Calls.{pass, stop, asked_err, number_least, more_asked, all_asked}
 use Rattle.account.proofs.account.Account.ask_correct.Goals as goal
-
-pub journal_takes-requires : goal.journal_takes-requires
-journal_takes-requires g c =
-    let few = rewritten_few (finding_of c.args.f) 0 c.rows.result.now in
-    omega (arith, few, c.in_ok-lines.ensures.1, rows_few c.args.self.now _ c.rows.ensures)
 
 pub returns-in_err-hold : goal.returns-in_err-hold
 unfolding asked

@@ -21,11 +21,11 @@ module _ {T : Type 0} (a : Account T) where
   roomy = (10, leb (length (state_of a).lines + 1) (journal_room (opening_of a))) ∷ []
 
   -- they are those that were asked of the account's own figures
-  shared_is : (late : Bool) (first last last' : ℕ) (m : Method) → late ≡ is_late (periods_of (state_of a)) → first ≡ next_day a.opening.figure (periods_of (state_of a)) → last' ≡ last →
-      first_no (shared last m) ≡ first_no (share_asked late a.sheet.filled first last' m)
-  shared_is late first last last' m l f e =
-      ap₂ (λ n x. first_no (share_asked (is_late (periods_of (state_of a))) n x last m)) (periods_length a) (sym f)
-      ∙ ap₂ (λ b y. first_no (share_asked b a.sheet.filled first y m)) (sym l) (sym e)
+  shared_is : (late : Bool) (place first last last' : ℕ) (m : Method) → late ≡ is_late (periods_of (state_of a)) → place ≡ a.sheet.filled → first ≡ next_day a.opening.figure (periods_of (state_of a)) → last' ≡ last →
+      first_no (shared last m) ≡ first_no (share_asked late place first last' m)
+  shared_is late place first last last' m l p f e =
+      ap₂ (λ n x. first_no (share_asked (is_late (periods_of (state_of a))) n x last m)) (periods_length a ∙ sym p) (sym f)
+      ∙ ap₂ (λ b y. first_no (share_asked b place first y m)) (sym l) (sym e)
 
 pub returns-in_err-hold : goal.returns-in_err-hold
 unfolding asked
@@ -62,7 +62,7 @@ returns-in_err-ask_share g c =
     let m = g.M.Method.meaning c.args.m.now in
     let day = c.in_ok-last.ensures in
     let term = c.in_ok-term.ensures in
-    let e = shared_is a _ _ c.args.last _ m c.is_late-late.ensures term.1.0 (term.1.1 ∙ day.1) ∙ c.in_err-ask_share.ensures in
+    let e = shared_is a _ _ _ c.args.last _ m c.is_late-late.ensures c.len.ensures term.1.0 (term.1.1 ∙ day.1) ∙ c.in_err-ask_share.ensures in
     asked_err _ _ c.from_residual-in_err-ask_share.result c.in_err-ask_share.field-0.0 c.from_residual-in_err-ask_share.ensures.1
     (pass _ _ _ _ c.in_ok-hold.ensures.0 (pass _ _ _ _ day.0 (pass _ _ _ _ c.in_ok-sheet_takes.ensures.0 (pass _ _ _ _ (ap (is_term _) (sym day.1) ∙ term.0)
     (more_asked (shared a c.args.last m) (roomy a) _ (number_least c.in_err-ask_share.field-0.0) e)))))
@@ -75,7 +75,7 @@ returns-in_err-journal_takes g c =
     let day = c.in_ok-last.ensures in
     let term = c.in_ok-term.ensures in
     let said = c.in_err-journal_takes.ensures in
-    let e = shared_is a _ _ c.args.last _ m c.is_late-late.ensures term.1.0 (term.1.1 ∙ day.1) ∙ c.in_ok-ask_share.ensures.0 in
+    let e = shared_is a _ _ _ c.args.last _ m c.is_late-late.ensures c.len.ensures term.1.0 (term.1.1 ∙ day.1) ∙ c.in_ok-ask_share.ensures.0 in
     asked_err _ _ c.from_residual-in_err-journal_takes.result c.in_err-journal_takes.field-0.0 c.from_residual-in_err-journal_takes.ensures.1
     (pass _ _ _ _ c.in_ok-hold.ensures.0 (pass _ _ _ _ day.0 (pass _ _ _ _ c.in_ok-sheet_takes.ensures.0 (pass _ _ _ _ (ap (is_term _) (sym day.1) ∙ term.0)
     (all_asked (shared a c.args.last m) (roomy a) _ refl e (stop _ _ _ said.0 ∙ sym (ap number_of said.1)))))))
@@ -91,7 +91,7 @@ returns g c =
     let term = c.in_ok-term.ensures in
     let share = c.in_ok-ask_share.ensures in
     let room = c.in_ok-journal_takes.ensures in
-    let e = shared_is a _ _ c.args.last _ m c.is_late-late.ensures term.1.0 (term.1.1 ∙ day.1) ∙ share.0 in (
+    let e = shared_is a _ _ _ c.args.last _ m c.is_late-late.ensures c.len.ensures term.1.0 (term.1.1 ∙ day.1) ∙ share.0 in (
       pass _ _ _ _ held.0 (pass _ _ _ _ day.0 (pass _ _ _ _ placed.0 (pass _ _ _ _ (ap (is_term _) (sym day.1) ∙ term.0)
           (all_asked (shared a c.args.last m) (roomy a) _ refl e (pass _ _ _ _ room.0 refl))))),
       (held.1, term.1.0, term.1.1 ∙ day.1, c.is_late-late.ensures, share.1, record { sheet = placed.1; journal = room.1 }),
