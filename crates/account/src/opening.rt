@@ -88,6 +88,13 @@ impl<'a, T> Account<'a, T> {
         self.sums.coming
     }
 
+    /// How many holds were granted: the number of the latest.
+    pub fn granted(&self) -> u32
+        ensures { result ≡ (state_of self.now).granted }
+    {
+        self.granted
+    }
+
     /// The hold that was granted last, where it is not handed back.
     pub fn hold(&self) -> Option<Hold>
         ensures { hold_of result ≡ (state_of self.now).holding }

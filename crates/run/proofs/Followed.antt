@@ -1,45 +1,64 @@
--- Calls made one after another: what they leave as it was, and the law. Assumes nothing.
-use Rattle.std.proofs.Common.{◌≡◌, ℕ, pos, ◌+◌, ◌-◌, ◌≤◌, eqb, List, [], ◌∷◌, ◌++◌, length, drop, sym, refl, ap, ◌∙◌, subst, arith}
+-- Calls made one after another: the law, the answers, and the memory past the filled parts.
+use Rattle.std.proofs.Common.{◌≡◌, ℕ, ◌+◌, ◌-◌, suc, ◌≤◌, eqb, List, [], ◌∷◌, ◌++◌, map, length, drop, Some, Option, sym, refl, ap, ap₂, ◌∙◌, subst, arith}
 use Rattle.std.proofs.lemmas.Bool.{cond_both}
-use Rattle.std.proofs.lemmas.List.{length-append, drop-drop}
-use Rattle.rules.specs.Subject.{Tariff, Call, take, hand_back, bill, estimate, correct, pay, Opening}
+use Rattle.std.proofs.lemmas.List.{length-append, length-map, drop-drop, map_push}
+use Rattle.rules.specs.Subject.{Period, Tariff, Finding, Method, day_weight, peak_weight, Call, take, hand_back, bill, estimate, correct, pay, Opening}
 use Rattle.rules.specs.Questions.{question}
+use Rattle.rules.specs.Laid.{laid, with_standing, rewrites, corrected}
+use Rattle.rules.specs.Given.{give, given, accepted}
 use Rattle.rules.specs.Shown.{Answer, State}
-use Rattle.rules.specs.Machine.{view, effect, worth, step}
-use Rattle.rules.proofs.Runs.{length-relay}
-use Rattle.rules.proofs.Stands.{law_step}
-use Rattle.figures.specs.declared.row.Row as figures-row
-use Rattle.figures.specs.declared.line.Line as figures-line
+use Rattle.rules.specs.Owed.{billed}
+use Rattle.rules.specs.Journal.{lines}
+use Rattle.rules.specs.Law.{Law, answer_to}
 use Rattle.account.specs.declared.account.Account.{Account}
-use Rattle.account.specs.State.{state_of, opening_of, Keeps, Opened}
-use Rattle.account.proofs.Calls.{rows_length, lines_length, kept_by}
-use Rattle.run.specs.Runs.{Moved, onto, Follows, KeepsLaw}
-
--- rows and lines of one state are no more than those of another
-record NoMore (s s' : State) : Type 0 where
-  rows : length s.rows ≤ length s'.rows
-  lines : length s.lines ≤ length s'.lines
+use Rattle.account.specs.State.{state_of, opening_of, Same, Keeps}
+use Rattle.account.proofs.Calls.{rows_length, lines_length}
+use Rattle.run.specs.Runs.{Moved, onto, answers_to, Follows}
 
 longer : {X : Type 0} (xs ys : List X) → length xs ≤ length (xs ++ ys)
 longer xs ys = omega (arith, length-append xs ys)
 
-effect_grows : (t : Tariff) (o : Opening) (s : State) (c : Call) → NoMore s (effect t o s c)
-unfolding effect
-effect_grows t o s (take now length) = record { rows = omega arith; lines = omega arith }
-effect_grows t o s (hand_back hold) = record { rows = omega arith; lines = omega arith }
-effect_grows t o s (bill hold last r) = record { rows = longer s.rows _; lines = longer s.lines _ }
-effect_grows t o s (estimate hold last m) = record { rows = longer s.rows _; lines = longer s.lines _ }
-effect_grows t o s (correct hold f m) = record { rows = omega (arith, length-relay t f m 0 0 0 s.rows); lines = longer s.lines _ }
-effect_grows t o s (pay hold cents) = record { rows = omega arith; lines = longer s.lines _ }
+corrected_length : (f : Finding) (m : Method) (row V W : ℕ) (ps : List Period) → length (corrected f m row V W ps) ≡ length ps
+unfolding corrected
+corrected_length f m row V W [] = refl
+corrected_length f m row V W (p ∷ ps) =
+    let rest = λ (v w : ℕ). corrected f m (suc row) v w ps in
+    cond_both (rewrites f row p) (with_standing (laid m V W p) p ∷ rest (V + day_weight m p) (W + peak_weight m p)) (p ∷ rest V W) (λ (qs : List Period). length qs ≡ suc (length ps))
+    (λ e. ap suc (corrected_length f m (suc row) _ _ ps))
+    (λ e. ap suc (corrected_length f m (suc row) V W ps))
 
--- no step takes a row or a line away
-step_grows : (t : Tariff) (o : Opening) (s : State) (c : Call) → NoMore s (step t o s c).1
-unfolding step
-step_grows t o s c =
-    let q = question o (view s) c in
-    let grown : State → Type 0 = NoMore s in
-    cond_both (eqb q 0) (record { number = 0; value = worth t o s c }, effect t o s c) (record { number = q; value = pos 0 }, s)
-    (λ (x : Answer × State). grown x.1) (λ e. effect_grows t o s c) (λ e. record { rows = omega arith; lines = omega arith })
+-- no call takes a billed period away
+billed_more : (o : Opening) (c : Call) (calls : List Call) → length (billed o calls) ≤ length (billed o (c ∷ calls))
+unfolding given give
+billed_more o (take now length) calls = omega arith
+billed_more o (hand_back hold) calls = omega arith
+billed_more o (bill hold last r) calls = longer (billed o calls) _
+billed_more o (estimate hold last m) calls = longer (billed o calls) _
+billed_more o (correct hold f m) calls = omega (arith, corrected_length f m 0 0 0 (billed o calls))
+billed_more o (pay hold cents) calls = omega arith
+
+-- nor a line
+lines_more : (t : Tariff) (o : Opening) (c : Call) (calls : List Call) → length (lines t o calls) ≤ length (lines t o (c ∷ calls))
+unfolding lines
+lines_more t o c calls = longer (lines t o calls) _
+
+-- what grows with every accepted call grows with every call
+accepted_more : (size : List Call → ℕ) → ((c : Call) (calls : List Call) → size calls ≤ size (c ∷ calls)) → (o : Opening) (h : List Call) (c : Call) → size (accepted o h) ≤ size (accepted o (c ∷ h))
+unfolding accepted
+accepted_more size grows o h c =
+    let before = accepted o h in
+    cond_both (eqb (question o (given o before) c) 0) (c ∷ before) before (λ (calls : List Call). size before ≤ size calls) (λ e. grows c before) (λ e. omega arith)
+
+rows_counted : (t : Tariff) (o : Opening) (h : List Call) (s : State) → Law t o h s → length s.rows ≡ length (billed o (accepted o h))
+rows_counted t o h s l = ap length l.rows ∙ length-map (billed o (accepted o h)) _
+
+onto_push : (h cs : List Call) (c : Call) → onto h (cs ++ (c ∷ [])) ≡ c ∷ onto h cs
+onto_push h [] c = refl
+onto_push h (d ∷ cs) c = onto_push (d ∷ h) cs c
+
+answers_push : (t : Tariff) (o : Opening) (h cs : List Call) (c : Call) → answers_to t o h (cs ++ (c ∷ [])) ≡ answers_to t o h cs ++ (answer_to t o (onto h cs) c ∷ [])
+answers_push t o h [] c = refl
+answers_push t o h (d ∷ cs) c = ap (λ rs. answer_to t o h d ∷ rs) (answers_push t o (d ∷ h) cs c)
 
 -- what is unchanged from m on and then from n on is unchanged from n on
 past_both : {X : Type 0} (xs ys zs : List X) (m n : ℕ) → m ≤ n → drop m ys ≡ drop m xs → drop n zs ≡ drop n ys → drop n zs ≡ drop n xs
@@ -50,44 +69,53 @@ past_both xs ys zs m n h e k =
     ∙ ap (drop (n - m)) e
     ∙ (drop-drop (n - m) m xs ∙ ap (λ i. drop i xs) there)
 
-onto_push : (h cs : List Call) (c : Call) → onto h (cs ++ (c ∷ [])) ≡ c ∷ onto h cs
-onto_push h [] c = refl
-onto_push h (d ∷ cs) c = onto_push (d ∷ h) cs c
+-- the filled places of one account are no more than those of another
+record NoMore {T : Type 0} (a b : Account T) : Type 0 where
+  sheet : a.sheet.filled ≤ b.sheet.filled
+  journal : a.journal.filled ≤ b.journal.filled
 
 module _ {T : Type 0} (mean : T → Tariff) where
-  rows_grow : (a b : Account T) (c : Call) → Moved mean a b c → a.sheet.filled ≤ b.sheet.filled
-  rows_grow a b c m = omega (arith, rows_length a, rows_length b, ap (λ (s : State). length s.rows) m.state, (step_grows (mean a.tariff) (opening_of a) (state_of a) c).rows)
+  -- accounts that are the same but for their calls keep one law
+  under : (a b : Account T) (h : List Call) → Same mean a b → Keeps mean h b → Law (mean a.tariff) (opening_of a) h (state_of b)
+  under a b h same l =
+      subst (λ (t : Tariff). Law t (opening_of a) h (state_of b)) same.tariff
+      (subst (λ (o : Opening). Law (mean b.tariff) o h (state_of b)) same.opening l)
 
-  lines_grow : (a b : Account T) (c : Call) → Moved mean a b c → a.journal.filled ≤ b.journal.filled
-  lines_grow a b c m = omega (arith, lines_length a, lines_length b, ap (λ (s : State). length s.lines) m.state, (step_grows (mean a.tariff) (opening_of a) (state_of a) c).lines)
+  filled_more : (a b : Account T) (h : List Call) (c : Call) → Same mean a b → Keeps mean h a → Keeps mean (c ∷ h) b → NoMore a b
+  filled_more a b h c same k l =
+      let t = mean a.tariff in
+      let o = opening_of a in
+      let n = under a b (c ∷ h) same l in
+      record {
+        sheet = omega (arith, rows_length a, rows_length b, rows_counted t o h (state_of a) k, rows_counted t o (c ∷ h) (state_of b) n, accepted_more (λ calls. length (billed o calls)) (billed_more o) o h c);
+        journal = omega (arith, lines_length a, lines_length b, ap length k.journal, ap length n.journal, accepted_more (λ calls. length (lines t o calls)) (lines_more t o) o h c);
+      }
 
-  pub follows_none : (a : Account T) → Follows mean a a []
-  follows_none a = record {
-    lawful = λ h l. l;
+  pub followed_none : (a : Account T) → Follows mean a a [] []
+  followed_none a h k = record {
+    law = k;
+    answers = refl;
     same = record { opening = refl; tariff = refl; sheet_past = refl; journal_past = refl; memory = record { sheet = refl; journal = refl } };
   }
 
-  pub follows_more : (a b d : Account T) (cs : List Call) (c : Call) → Follows mean a b cs → Moved mean b d c → Follows mean a d (cs ++ (c ∷ []))
-  follows_more a b d cs c f m =
+  pub followed_more : (a b d : Account T) (cs : List Call) (rs : List (Option Answer)) (c : Call) (r : Answer) → Follows mean a b cs rs → Moved mean b d c r → Follows mean a d (cs ++ (c ∷ [])) (rs ++ (Some r ∷ []))
+  followed_more a b d cs rs c r f m h k =
+      let t = mean a.tariff in
+      let o = opening_of a in
+      let s = f h k in
+      let n = m.law (onto h cs) s.law in
+      let more = filled_more b d (onto h cs) c m.same s.law n.0 in
+      let answered : r ≡ answer_to t o (onto h cs) c = n.1 ∙ ap₂ (λ (t' : Tariff) (o' : Opening). answer_to t' o' (onto h cs) c) s.same.tariff s.same.opening in
       record {
-        lawful = λ h l. subst (λ k. Keeps mean k d) (sym (onto_push h cs c))
-            (kept_by mean b d (c ∷ onto h cs) _ (law_step (mean b.tariff) (opening_of b) (onto h cs) (state_of b) c (f.lawful h l)).0 m.state m.same);
+        law = subst (λ k. Keeps mean k d) (sym (onto_push h cs c)) n.0;
+        answers =
+            ap₂ (λ xs x. xs ++ (Some x ∷ [])) s.answers answered
+            ∙ sym (ap (map Some) (answers_push t o h cs c) ∙ map_push Some (answers_to t o h cs) (answer_to t o (onto h cs) c));
         same = record {
-          opening = m.same.opening ∙ f.same.opening;
-          tariff = m.same.tariff ∙ f.same.tariff;
-          sheet_past = past_both a.sheet.memory.now b.sheet.memory.now d.sheet.memory.now b.sheet.filled d.sheet.filled (rows_grow b d c m) f.same.sheet_past m.same.sheet_past;
-          journal_past = past_both a.journal.memory.now b.journal.memory.now d.journal.memory.now b.journal.filled d.journal.filled (lines_grow b d c m) f.same.journal_past m.same.journal_past;
-          memory = record { sheet = m.same.memory.sheet ∙ f.same.memory.sheet; journal = m.same.memory.journal ∙ f.same.memory.journal };
+          opening = m.same.opening ∙ s.same.opening;
+          tariff = m.same.tariff ∙ s.same.tariff;
+          sheet_past = past_both a.sheet.memory.now b.sheet.memory.now d.sheet.memory.now b.sheet.filled d.sheet.filled more.sheet s.same.sheet_past m.same.sheet_past;
+          journal_past = past_both a.journal.memory.now b.journal.memory.now d.journal.memory.now b.journal.filled d.journal.filled more.journal s.same.journal_past m.same.journal_past;
+          memory = record { sheet = m.same.memory.sheet ∙ s.same.memory.sheet; journal = m.same.memory.journal ∙ s.same.memory.journal };
         };
-      }
-
-  -- an account just opened follows the empty run
-  pub opened_follows : (a b : Account T) (t : T) (day : ℕ) (sheet : List figures-row.Row) (journal : List figures-line.Line) (cs : List Call) → Opened mean a t day sheet journal → Follows mean a b cs → KeepsLaw mean (mean t) day sheet journal cs b
-  opened_follows a b t day sheet journal cs o f =
-      record {
-        lawful = f.lawful [] o.law;
-        opening = f.same.opening ∙ o.opening;
-        tariff = f.same.tariff ∙ ap mean o.tariff;
-        sheet_past = f.same.sheet_past ∙ ap (drop b.sheet.filled) o.rows;
-        journal_past = f.same.journal_past ∙ ap (drop b.journal.filled) o.lines;
       }

@@ -1,61 +1,52 @@
--- Whole runs of an account. Assumes nothing.
-use Rattle.std.specs.Prelude.{◌≡◌, ℕ, ◌≤◌, List, [], ◌∷◌, map, length, take, drop}
-use Rattle.rules.specs.Subject as rules
-use Rattle.rules.specs.Subject.{Tariff, Method, Call}
-use Rattle.rules.specs.Given.{accepted, takes, standing_hold}
-use Rattle.rules.specs.Shown.{State}
-use Rattle.rules.specs.Law.{Law}
-use Rattle.rules.specs.Machine.{step}
-use Rattle.figures.specs.View.{reading_of, seen, line_seen}
-use Rattle.account.specs.Bounds as sums
+-- Whole runs of an account: calls made one after another, what they are answered, and what they leave.
+-- A history has its newest call first; a list of calls to be made has its oldest first.
+use Rattle.std.specs.Prelude.{◌≡◌, ℕ, ◌≤◌, List, [], ◌∷◌, map, length, take, drop, Some, Option}
+use Rattle.rules.specs.Subject.{Tariff, Call, Opening}
+use Rattle.rules.specs.Shown.{State, Answer}
+use Rattle.rules.specs.Law.{Law, answer_to}
+use Rattle.figures.specs.View.{seen, line_seen}
 use Rattle.figures.specs.declared.row.Row.{Row}
 use Rattle.figures.specs.declared.line.Line.{Line}
-use Rattle.method.specs.Uses.{finding_of}
+use Rattle.account.specs.Bounds as sums
 use Rattle.account.specs.declared.account.Account.{Account}
-use Rattle.account.specs.State.{state_of, opening_of, Same, Keeps, opened_over}
+use Rattle.account.specs.State.{hold_of, opening_of, opened_over, Same, Keeps, LawfulAfter}
 use Rattle.run.specs.declared.keep.Kept.{Kept}
-use Rattle.run.specs.declared.ask.Ask.{Ask}
-use Rattle.run.specs.declared.ask.Ask.TheVariants.{Take, HandBack, Bill, Estimate, Correct, Pay}
 
--- the call that is asked for, by what its method means
-abbrev pub call_of : {M : Type 0} → (M → Method) → Ask M → Call
-call_of mean (Take moment span) = rules.take moment span
-call_of mean (HandBack hold) = rules.hand_back hold
-call_of mean (Bill hold last r) = rules.bill hold last (reading_of r)
-call_of mean (Estimate hold last m) = rules.estimate hold last (mean m)
-call_of mean (Correct hold f m) = rules.correct hold (finding_of f) (mean m)
-call_of mean (Pay hold cents) = rules.pay hold cents.0
-
--- one call made: b is a after the step
-pub record Moved {T : Type 0} (mean : T → Tariff) (a b : Account T) (c : Call) : Type 0 where
-  pub state : state_of b ≡ (step (mean a.tariff) (opening_of a) (state_of a) c).1
-  pub same : Same mean a b
-
--- a history, newest first, with more calls, oldest first
+-- the history with more calls made after it
 abbrev pub onto : List Call → List Call → List Call
 onto h [] = h
 onto h (c ∷ cs) = onto (c ∷ h) cs
 
--- calls made: where a keeps the law of a history, b keeps the law of the history with these calls after it
-pub record Follows {T : Type 0} (mean : T → Tariff) (a b : Account T) (cs : List Call) : Type 0 where
-  pub lawful : (h : List Call) → Keeps mean h a → Keeps mean (onto h cs) b
-  pub same : Same mean a b
+-- what these calls are answered after a history: each as the history of the calls before it gives
+abbrev pub answers_to : Tariff → Opening → (h cs : List Call) → List Answer
+answers_to t o h [] = []
+answers_to t o h (c ∷ cs) = answer_to t o h c ∷ answers_to t o (c ∷ h) cs
 
--- from the opening to the end: opened on a day over this memory, the account keeps the law of these calls; its tariff
--- means t, and memory past the filled parts is as it was lent
-pub record KeepsLaw {T : Type 0} (mean : T → Tariff) (t : Tariff) (day : ℕ) (sheet : List Row) (journal : List Line) (cs : List Call) (a : Account T) : Type 0 where
-  pub lawful : Keeps mean (onto [] cs) a
-  pub opening : opening_of a ≡ opened_over day sheet journal
-  pub tariff : mean a.tariff ≡ t
-  pub sheet_past : drop a.sheet.filled a.sheet.memory.now ≡ drop a.sheet.filled sheet
-  pub journal_past : drop a.journal.filled a.journal.memory.now ≡ drop a.journal.filled journal
+-- all of them were made after it, and these answers written
+abbrev pub AllAnswered : Tariff → Opening → (h cs : List Call) → List (Option Answer) → Type 0
+AllAnswered t o h cs rs = rs ≡ map Some (answers_to t o h cs)
 
--- the account that a run leaves: who holds it by the accepted calls, its sums as they are answered, and the filled places of a sheet
--- and a journal
-abbrev pub left_in : (calls : List Call) → Kept → List Row → List Line → State
-left_in calls k sheet journal = record {
-  granted = takes calls;
-  holding = standing_hold calls;
+module _ {T : Type 0} (mean : T → Tariff) where
+  -- a call turned the account a into b and was answered r, by the law; both are opened alike, over one memory
+  pub record Moved (a b : Account T) (c : Call) (r : Answer) : Type 0 where
+    pub law : LawfulAfter mean a b c r
+    pub same : Same mean a b
+
+  -- so did these calls, after a history whose law a keeps
+  pub record Served (a b : Account T) (h cs : List Call) (rs : List (Option Answer)) : Type 0 where
+    pub law : Keeps mean (onto h cs) b
+    pub answers : AllAnswered (mean a.tariff) (opening_of a) h cs rs
+    pub same : Same mean a b
+
+  -- after every such history
+  abbrev pub Follows : (a b : Account T) (cs : List Call) → List (Option Answer) → Type 0
+  Follows a b cs rs = (h : List Call) → Keeps mean h a → Served a b h cs rs
+
+-- the account that a run leaves, by what it returned and the filled places of a sheet and a journal
+abbrev pub left_in : Kept → List Row → List Line → State
+left_in k sheet journal = record {
+  granted = k.granted;
+  holding = hold_of k.hold;
   rows = map seen (take k.rows sheet);
   lines = map line_seen (take k.lines journal);
   balance = k.balance.0;
@@ -63,13 +54,12 @@ left_in calls k sheet journal = record {
   coming = map sums.seen k.coming.places;
 }
 
--- a run made over a sheet and a journal answered k and left these two lists: what their filled places hold, with the sums, keeps the law
--- of these calls, and past them stands what stood there
-pub record Left (t : Tariff) (day : ℕ) (sheet : List Row) (journal : List Line) (cs : List Call) (k : Kept) (sheet_left : List Row) (journal_left : List Line) : Type 0 where
-  pub law :
-      let o = opened_over day sheet journal in
-      let history = onto [] cs in
-      Law t o history (left_in (accepted o history) k sheet_left journal_left)
+-- these calls were made over a sheet and a journal, each given with what stands in it at the end: the account that
+-- is left keeps the law of the calls, each call has its answer, and past the filled places stands what stood there
+pub record Left (t : Tariff) (day : ℕ) (sheet sheet_left : List Row) (journal journal_left : List Line)
+    (cs : List Call) (rs : List (Option Answer)) (k : Kept) : Type 0 where
+  pub law : Law t (opened_over day sheet journal) (onto [] cs) (left_in k sheet_left journal_left)
+  pub answers : AllAnswered t (opened_over day sheet journal) [] cs rs
   pub rows : k.rows ≤ length sheet_left
   pub lines : k.lines ≤ length journal_left
   pub sheet_past : drop k.rows sheet_left ≡ drop k.rows sheet

@@ -1,9 +1,11 @@
 // By what an account estimates and corrects: one method, or any of the five.
 ghost use Rattle.rules.specs.Subject.{Method as Meaning, estimate as estimating, correct as correcting};
 ghost use Rattle.method.specs.Uses.{finding_of};
-ghost use Rattle.run.specs.Runs.{Moved};
 ghost use Rattle.run.specs.Any.{any_of};
+ghost use Rattle.run.specs.Calls.{answer_of};
+ghost use Rattle.run.specs.Runs.{Moved};
 
+use crate::answer::{Answer, Done};
 use crate::any_method::AnyMethod;
 use account::account::Account;
 use method::finding::Finding;
@@ -14,29 +16,31 @@ use tariff::tariff::Tariff;
 pub trait Chosen {
     ghost means: { Self → Meaning };
 
-    fn estimate<T: Tariff>(&self, account: &mut Account<T>, hold: u64, last: u64)
-        ensures { Moved T.Tariff.meaning account.old account.new (estimating hold last (means self.now)) };
+    fn estimate<T: Tariff>(&self, account: &mut Account<T>, hold: u64, last: u64) -> Answer
+        ensures { Moved T.Tariff.meaning account.old account.new
+            (estimating hold last (means self.now)) (answer_of result) };
 
-    fn correct<T: Tariff>(&self, account: &mut Account<T>, hold: u64, finding: Finding)
-        ensures { Moved T.Tariff.meaning account.old account.new (correcting hold (finding_of finding) (means self.now)) };
+    fn correct<T: Tariff>(&self, account: &mut Account<T>, hold: u64, finding: Finding) -> Answer
+        ensures { Moved T.Tariff.meaning account.old account.new
+            (correcting hold (finding_of finding) (means self.now)) (answer_of result) };
 }
 
 impl<M: Method> Chosen for M {
     ghost means = { M.Method.meaning };
 
-    fn estimate<T: Tariff>(&self, account: &mut Account<T>, hold: u64, last: u64) {
-        let _ = account.estimate(hold, last, self);
+    fn estimate<T: Tariff>(&self, account: &mut Account<T>, hold: u64, last: u64) -> Answer {
+        Ok(Done::Billed(account.estimate(hold, last, self)?))
     }
 
-    fn correct<T: Tariff>(&self, account: &mut Account<T>, hold: u64, finding: Finding) {
-        let _ = account.correct(hold, finding, self);
+    fn correct<T: Tariff>(&self, account: &mut Account<T>, hold: u64, finding: Finding) -> Answer {
+        Ok(Done::Corrected(account.correct(hold, finding, self)?))
     }
 }
 
 impl Chosen for AnyMethod {
     ghost means = { any_of };
 
-    fn estimate<T: Tariff>(&self, account: &mut Account<T>, hold: u64, last: u64) {
+    fn estimate<T: Tariff>(&self, account: &mut Account<T>, hold: u64, last: u64) -> Answer {
         match self {
             AnyMethod::Category(m) => m.estimate(account, hold, last),
             AnyMethod::TestMeter(m) => m.estimate(account, hold, last),
@@ -46,7 +50,7 @@ impl Chosen for AnyMethod {
         }
     }
 
-    fn correct<T: Tariff>(&self, account: &mut Account<T>, hold: u64, finding: Finding) {
+    fn correct<T: Tariff>(&self, account: &mut Account<T>, hold: u64, finding: Finding) -> Answer {
         match self {
             AnyMethod::Category(m) => m.correct(account, hold, finding),
             AnyMethod::TestMeter(m) => m.correct(account, hold, finding),

@@ -1,51 +1,47 @@
 // Calls, one after another.
-ghost use Rattle.std.specs.Prelude.{map};
-ghost use Rattle.run.specs.Runs.{call_of, Moved, Follows};
+ghost use Rattle.std.specs.Prelude.{◌≡◌};
+ghost use Rattle.run.specs.Calls.{call_of, answer_of, asks_in, calls_in, answers_in};
+ghost use Rattle.run.specs.Runs.{Moved, Follows};
 
+use crate::answer::{Answer, Done};
 use crate::ask::Ask;
 use crate::chosen::Chosen;
+use crate::request::Request;
 use account::account::Account;
 use tariff::tariff::Tariff;
 
 /// Makes one call.
-fn serve<T: Tariff, M: Chosen>(a: &mut Account<T>, ask: &Ask<M>)
-    ensures { Moved T.Tariff.meaning a.old a.new (call_of M.Chosen.means ask.now) }
+fn serve<T: Tariff, M: Chosen>(a: &mut Account<T>, ask: &Ask<M>) -> Answer
+    ensures { Moved T.Tariff.meaning a.old a.new (call_of M.Chosen.means ask.now) (answer_of result) }
 {
     match ask {
-        Ask::Take { moment, span } => {
-            let _ = a.take(*moment, *span);
-        }
+        Ask::Take { moment, span } => Ok(Done::Granted(a.take(*moment, *span)?)),
         Ask::HandBack { hold } => {
-            let _ = a.hand_back(*hold);
+            a.hand_back(*hold)?;
+            Ok(Done::HandedBack)
         }
         Ask::Bill {
             hold,
             last,
             reading,
-        } => {
-            let _ = a.bill(*hold, *last, *reading);
-        }
-        Ask::Estimate { hold, last, method } => {
-            method.estimate(a, *hold, *last);
-        }
+        } => Ok(Done::Billed(a.bill(*hold, *last, *reading)?)),
+        Ask::Estimate { hold, last, method } => method.estimate(a, *hold, *last),
         Ask::Correct {
             hold,
             finding,
             method,
-        } => {
-            method.correct(a, *hold, *finding);
-        }
-        Ask::Pay { hold, cents } => {
-            let _ = a.pay(*hold, *cents);
-        }
+        } => method.correct(a, *hold, *finding),
+        Ask::Pay { hold, cents } => Ok(Done::Paid(a.pay(*hold, *cents)?)),
     }
 }
 
-/// Makes every call in turn. An account that follows a run then follows the run with these calls added, and keeps its law.
-pub fn serve_all<T: Tariff, M: Chosen>(a: &mut Account<T>, asks: &[Ask<M>])
-    ensures law { Follows T.Tariff.meaning a.old a.new (map (call_of M.Chosen.means) asks.now) }
+/// Makes every call in turn, and writes its answer beside it.
+pub fn serve_all<T: Tariff, M: Chosen>(a: &mut Account<T>, requests: &mut [Request<M>])
+    ensures law { Follows T.Tariff.meaning a.old a.new
+        (calls_in M.Chosen.means requests.old) (answers_in requests.new) }
+    ensures asks { asks_in requests.new ≡ asks_in requests.old }
 {
-    for ask in asks {
-        serve(a, ask);
+    for request in requests.iter_mut() {
+        request.answer = Some(serve(a, &request.ask));
     }
 }
