@@ -121,9 +121,13 @@ module _ {T : Type 0} (mean : T → Tariff) where
       (subst (λ (o : Opening). Law (mean a.tariff) o h (state_of b)) (sym same.opening) (subst (Law (mean a.tariff) (opening_of a) h) (sym e) l))
 
   pub lawful : (a b : Account T) (c : Call) (r : Answer) → Stepped mean a b c r → LawfulAfter mean a b c r
-  lawful a b c r s h l =
-      let n = law_step (mean a.tariff) (opening_of a) h (state_of a) c l in
-      (kept_by a b (c ∷ h) _ n.0 s.state s.same, s.answer ∙ n.1)
+  lawful a b c r s =
+      let after = λ (h : List Call) (l : Keeps mean h a). law_step (mean a.tariff) (opening_of a) h (state_of a) c l in
+      record {
+        same = s.same;
+        law = λ h l. kept_by a b (c ∷ h) _ (after h l).0 s.state s.same;
+        answer = λ h l. s.answer ∙ (after h l).1;
+      }
 
 pub number_least : (e : Refusal) → 1 ≤ number_of e
 number_least NoHold = omega arith

@@ -2,13 +2,14 @@
 use Rattle.std.proofs.Common.{◌≡◌, ℕ, ◌+◌, ◌<◌, ◌≤◌, true, ltb, leb, List, map, length, ℤ, sym, refl, ap, ◌∙◌, ap₂, arith}
 use Rattle.std.proofs.lemmas.Bool.{and_parts, leb-true, ltb-true}
 use Rattle.rules.specs.Subject.{Tariff, Opening, Finding, Method, correct}
-use Rattle.rules.specs.Laid.{six_at_most, rewritten, corrected}
+use Rattle.rules.specs.Laid.{rewritten, corrected}
+use Rattle.account.specs.Few.{six_at_most}
 use Rattle.rules.specs.Questions.{question, asked, all_fit, bills}
 use Rattle.rules.specs.Shown as show
 use Rattle.rules.specs.Journal.{cents_of}
 use Rattle.rules.specs.Machine.{period_of, periods_of, view, relay, posts, effect}
 use Rattle.rules.proofs.Runs.{length-posts, relay_periods}
-use Rattle.rules.proofs.Spans.{six_corrected, rows_few}
+use Rattle.account.proofs.Spans.{six_corrected, rows_few}
 use Rattle.rules.proofs.Dues.{bills_limit}
 use Rattle.book.specs.Pages.{Pages, pages_of}
 use Rattle.figures.specs.declared.line.Line.{Line}

@@ -1,3 +1,4 @@
+pub mod Spans
 pub mod Calls
 pub mod Rows
 pub mod Corrections

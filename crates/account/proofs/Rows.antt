@@ -3,10 +3,11 @@ use Rattle.std.proofs.Common.{◌≡◌, ℕ, ◌+◌, ◌-◌, ◌<◌, ◌≤�
 use Rattle.std.proofs.lemmas.List.{take_all, take_more, take_more_set, map_push, length-set, drop-set-lt}
 use Rattle.rules.specs.Shown.{State}
 use Rattle.rules.specs.Subject.{Registers, Period, Tariff, charge_on}
-use Rattle.rules.specs.Laid.{next_day, run, may_stand, six_at_most, metered}
+use Rattle.rules.specs.Laid.{next_day, run, metered}
+use Rattle.account.specs.Few.{may_stand, six_at_most}
 use Rattle.rules.specs.Shown as show
 use Rattle.rules.specs.Machine.{period_of, bill_row}
-use Rattle.rules.proofs.Spans.{six_push}
+use Rattle.account.proofs.Spans.{six_push}
 use Rattle.book.specs.Pages.{Pages, pages_of, written}
 use Rattle.figures.specs.View.{seen, period_seen}
 use Rattle.figures.specs.declared.row.Row.{Row}

@@ -1,6 +1,7 @@
 pub mod State
 pub mod Answers
 pub mod Work
+pub mod Few
 pub mod Rows
 pub mod Lines
 pub mod Weighing

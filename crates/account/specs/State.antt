@@ -58,11 +58,12 @@ pub record Stepped {T : Type 0} (mean : T → Tariff) (a b : Account T) (c : Cal
 abbrev pub Keeps : {T : Type 0} (mean : T → Tariff) (h : List Call) (a : Account T) → Type 0
 Keeps mean h a = Law (mean a.tariff) (opening_of a) h (state_of a)
 
--- for every history: where the account before keeps the law of it, the account after keeps the law of the history with this call, and the
--- answer is the one that the history gives
-abbrev pub LawfulAfter : {T : Type 0} (mean : T → Tariff) (a b : Account T) (c : Call) (r : Answer) → Type 0
-LawfulAfter mean a b c r =
-    (h : List Call) → Keeps mean h a → Keeps mean (c ∷ h) b × (r ≡ answer_to (mean a.tariff) (opening_of a) h c)
+-- a call by the law: b is the account that a was opened as; and whatever history a keeps the law of, b keeps the law of the history with
+-- this call, which was answered as the history has it
+pub record LawfulAfter {T : Type 0} (mean : T → Tariff) (a b : Account T) (c : Call) (r : Answer) : Type 0 where
+  pub same : Same mean a b
+  pub law : (h : List Call) → Keeps mean h a → Keeps mean (c ∷ h) b
+  pub answer : (h : List Call) → Keeps mean h a → r ≡ answer_to (mean a.tariff) (opening_of a) h c
 
 abbrev pub opened_over : (day : ℕ) → List Row → List Line → Opening
 opened_over day sheet journal = record { day = day; sheet = length sheet; journal = length journal }

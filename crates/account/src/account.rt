@@ -1,6 +1,6 @@
 // The account: its tariff, its holds, its sums, its sheet and its journal.
 ghost use Rattle.std.specs.Prelude.{◌≡◌, min, length, true};
-ghost use Rattle.rules.specs.Laid.{six_at_most};
+ghost use Rattle.account.specs.Few.{six_at_most};
 ghost use Rattle.book.specs.Pages.{pages_of};
 ghost use Rattle.account.specs.Rows.{filled_periods};
 

@@ -8,7 +8,7 @@ use Rattle.rules.proofs.Runs.{rows_periods}
 use Rattle.rules.specs.Shown.{Answer, State}
 use Rattle.rules.proofs.Stands.{law_step}
 use Rattle.account.specs.declared.account.Account as account
-use Rattle.account.specs.State.{state_of, opening_of}
+use Rattle.account.specs.State.{state_of, opening_of, Keeps}
 use Rattle.events.specs.Events.{event_of}
 use Rattle.desk.specs.declared.fault.Fault.{Fault}
 use Rattle.desk.specs.declared.fault.Layer.TheVariants.{Account}
@@ -33,10 +33,13 @@ pub answered_so : (t : Tariff) (o : Opening) (h : List Call) (s : State) (line :
 answered_so t o h s line l = ap (λ (ps : List Period). answered t o s (line_call ps (event_of line))) (law_periods t o h s l)
 
 pub lawful_line : {T : Type 0} (mean : T → Tariff) (a b : account.Account T) (line : List ℕ) (r : Result ℤ Fault) → Called mean a b (line_call (periods_of (state_of a)) (event_of line)) r → LawfulLine mean a b line r
-lawful_line mean a b line r s h l =
+lawful_line mean a b line r s =
     let t = mean a.tariff in
     let o = opening_of a in
-    let c = call_after o h line in
-    let so = answered_so t o h (state_of a) line l in
-    let n = answered_law t o h (state_of a) c l in
-    (kept_by mean a b (with_call h c) _ n.0 (s.state ∙ ap (λ x. x.1) so) s.same, s.answer ∙ ap (λ x. x.0) so ∙ n.1)
+    let so = λ (h : List Call) (l : Keeps mean h a). answered_so t o h (state_of a) line l in
+    let after = λ (h : List Call) (l : Keeps mean h a). answered_law t o h (state_of a) (call_after o h line) l in
+    record {
+      same = s.same;
+      law = λ h l. kept_by mean a b (with_call h (call_after o h line)) _ (after h l).0 (s.state ∙ ap (λ x. x.1) (so h l)) s.same;
+      answer = λ h l. s.answer ∙ ap (λ x. x.0) (so h l) ∙ (after h l).1;
+    }

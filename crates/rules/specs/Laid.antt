@@ -1,5 +1,5 @@
 -- What a call lays down for the periods that it adds or rewrites. Assumes nothing.
-use Rattle.std.specs.Prelude.{ℕ, suc, ◌+◌, Bool, true, cond, not, ◌&&◌, ◌||◌, List, [], ◌∷◌, nat_le, nat_lt}
+use Rattle.std.specs.Prelude.{ℕ, suc, ◌+◌, Bool, true, cond, ◌&&◌, List, [], ◌∷◌, nat_le}
 use Rattle.rules.specs.Subject.{Registers, zeros, day_units, peak_units, Sort, read, estimated, no_energy, Period, days, is_estimated, unmetered, Cause, absent, Finding, Method, day_weight, peak_weight}
 use Rattle.rules.specs.Sharing.{share}
 
@@ -20,15 +20,6 @@ run_past n (p ∷ ps) = run_past (run_on n p) ps
 -- and at the end of ps
 abbrev pub run : List Period → ℕ
 run ps = run_past 0 ps
-
--- p is not estimated, or stands after fewer than six unmetered periods in a row
-abbrev pub may_stand : ℕ → Period → Bool
-may_stand n p = not (is_estimated p.sort) || nat_lt n 6
-
--- so does each of ps, where n unmetered ones stand before them: at most six of a run are estimated
-abbrev pub six_at_most : (n : ℕ) → List Period → Bool
-six_at_most n [] = true
-six_at_most n (p ∷ ps) = may_stand n p && six_at_most (run_on n p) ps
 
 -- a method's share and demand for p, where the rows before it that it shares over weigh V and W together
 abbrev pub laid : Method → (V W : ℕ) → Period → Registers

@@ -11,9 +11,9 @@ use Rattle.rules.specs.Owed.{billed}
 use Rattle.rules.specs.Journal.{lines}
 use Rattle.rules.specs.Law.{Law, answer_to}
 use Rattle.account.specs.declared.account.Account.{Account}
-use Rattle.account.specs.State.{state_of, opening_of, Same, Keeps}
+use Rattle.account.specs.State.{state_of, opening_of, Same, Keeps, LawfulAfter}
 use Rattle.account.proofs.Calls.{rows_length, lines_length}
-use Rattle.run.specs.Runs.{Moved, onto, answers_to, Follows}
+use Rattle.run.specs.Runs.{onto, answers_to, Follows}
 
 longer : {X : Type 0} (xs ys : List X) → length xs ≤ length (xs ++ ys)
 longer xs ys = omega (arith, length-append xs ys)
@@ -98,16 +98,16 @@ module _ {T : Type 0} (mean : T → Tariff) where
     same = record { opening = refl; tariff = refl; sheet_past = refl; journal_past = refl; memory = record { sheet = refl; journal = refl } };
   }
 
-  pub followed_more : (a b d : Account T) (cs : List Call) (rs : List (Option Answer)) (c : Call) (r : Answer) → Follows mean a b cs rs → Moved mean b d c r → Follows mean a d (cs ++ (c ∷ [])) (rs ++ (Some r ∷ []))
+  pub followed_more : (a b d : Account T) (cs : List Call) (rs : List (Option Answer)) (c : Call) (r : Answer) → Follows mean a b cs rs → LawfulAfter mean b d c r → Follows mean a d (cs ++ (c ∷ [])) (rs ++ (Some r ∷ []))
   followed_more a b d cs rs c r f m h k =
       let t = mean a.tariff in
       let o = opening_of a in
       let s = f h k in
-      let n = m.law (onto h cs) s.law in
-      let more = filled_more b d (onto h cs) c m.same s.law n.0 in
-      let answered : r ≡ answer_to t o (onto h cs) c = n.1 ∙ ap₂ (λ (t' : Tariff) (o' : Opening). answer_to t' o' (onto h cs) c) s.same.tariff s.same.opening in
+      let kept = m.law (onto h cs) s.law in
+      let more = filled_more b d (onto h cs) c m.same s.law kept in
+      let answered : r ≡ answer_to t o (onto h cs) c = m.answer (onto h cs) s.law ∙ ap₂ (λ (t' : Tariff) (o' : Opening). answer_to t' o' (onto h cs) c) s.same.tariff s.same.opening in
       record {
-        law = subst (λ k. Keeps mean k d) (sym (onto_push h cs c)) n.0;
+        law = subst (λ k. Keeps mean k d) (sym (onto_push h cs c)) kept;
         answers =
             ap₂ (λ xs x. xs ++ (Some x ∷ [])) s.answers answered
             ∙ sym (ap (map Some) (answers_push t o h cs c) ∙ map_push Some (answers_to t o h cs) (answer_to t o (onto h cs) c));

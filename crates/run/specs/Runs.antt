@@ -9,7 +9,7 @@ use Rattle.figures.specs.declared.row.Row.{Row}
 use Rattle.figures.specs.declared.line.Line.{Line}
 use Rattle.account.specs.Bounds as sums
 use Rattle.account.specs.declared.account.Account.{Account}
-use Rattle.account.specs.State.{hold_of, opening_of, opened_over, Same, Keeps, LawfulAfter}
+use Rattle.account.specs.State.{hold_of, opening_of, opened_over, Same, Keeps}
 use Rattle.run.specs.declared.keep.Kept.{Kept}
 
 -- the history with more calls made after it
@@ -27,18 +27,14 @@ abbrev pub AllAnswered : Tariff → Opening → (h cs : List Call) → List (Opt
 AllAnswered t o h cs rs = rs ≡ map Some (answers_to t o h cs)
 
 module _ {T : Type 0} (mean : T → Tariff) where
-  -- a call turned the account a into b and was answered r, by the law; both are opened alike, over one memory
-  pub record Moved (a b : Account T) (c : Call) (r : Answer) : Type 0 where
-    pub law : LawfulAfter mean a b c r
-    pub same : Same mean a b
-
-  -- so did these calls, after a history whose law a keeps
+  -- these calls turned the account a, which keeps the law of a history, into b, which keeps that of the history with them, and each was
+  -- answered as the calls before it have it; both are opened alike, over one memory
   pub record Served (a b : Account T) (h cs : List Call) (rs : List (Option Answer)) : Type 0 where
     pub law : Keeps mean (onto h cs) b
     pub answers : AllAnswered (mean a.tariff) (opening_of a) h cs rs
     pub same : Same mean a b
 
-  -- after every such history
+  -- so they did, whatever history a keeps the law of
   abbrev pub Follows : (a b : Account T) (cs : List Call) → List (Option Answer) → Type 0
   Follows a b cs rs = (h : List Call) → Keeps mean h a → Served a b h cs rs
 

@@ -3,7 +3,7 @@ ghost use Rattle.rules.specs.Subject.{Method as Meaning, estimate as estimating,
 ghost use Rattle.method.specs.Uses.{finding_of};
 ghost use Rattle.run.specs.Any.{any_of};
 ghost use Rattle.run.specs.Calls.{answer_of};
-ghost use Rattle.run.specs.Runs.{Moved};
+ghost use Rattle.account.specs.State.{LawfulAfter};
 
 use crate::answer::{Answer, Done};
 use crate::any_method::AnyMethod;
@@ -17,11 +17,11 @@ pub trait Chosen {
     ghost means: { Self → Meaning };
 
     fn estimate<T: Tariff>(&self, account: &mut Account<T>, hold: u64, last: u64) -> Answer
-        ensures { Moved T.Tariff.meaning account.old account.new
+        ensures { LawfulAfter T.Tariff.meaning account.old account.new
             (estimating hold last (means self.now)) (answer_of result) };
 
     fn correct<T: Tariff>(&self, account: &mut Account<T>, hold: u64, finding: Finding) -> Answer
-        ensures { Moved T.Tariff.meaning account.old account.new
+        ensures { LawfulAfter T.Tariff.meaning account.old account.new
             (correcting hold (finding_of finding) (means self.now)) (answer_of result) };
 }
 

@@ -1,7 +1,8 @@
 // Calls, one after another.
 ghost use Rattle.std.specs.Prelude.{◌≡◌};
 ghost use Rattle.run.specs.Calls.{call_of, answer_of, asks_in, calls_in, answers_in};
-ghost use Rattle.run.specs.Runs.{Moved, Follows};
+ghost use Rattle.account.specs.State.{LawfulAfter};
+ghost use Rattle.run.specs.Runs.{Follows};
 
 use crate::answer::{Answer, Done};
 use crate::ask::Ask;
@@ -12,7 +13,7 @@ use tariff::tariff::Tariff;
 
 /// Makes one call.
 fn serve<T: Tariff, M: Chosen>(a: &mut Account<T>, ask: &Ask<M>) -> Answer
-    ensures { Moved T.Tariff.meaning a.old a.new (call_of M.Chosen.means ask.now) (answer_of result) }
+    ensures { LawfulAfter T.Tariff.meaning a.old a.new (call_of M.Chosen.means ask.now) (answer_of result) }
 {
     match ask {
         Ask::Take { moment, span } => Ok(Done::Granted(a.take(*moment, *span)?)),

@@ -2,7 +2,8 @@
 use Rattle.std.proofs.Common.{◌≡◌, ℕ, suc, ◌+◌, ◌-◌, ◌<◌, ◌≤◌, max, true, false, cond, ◌&&◌, eqb, leb, List, [], ◌∷◌, ◌++◌, length, refl, ap, ◌∙◌, sym, arith}
 use Rattle.std.proofs.lemmas.Bool.{cond_both, leb-true, leb-false, ltb-true, eqb-true, and_parts, and_from, le-leb, false≢true}
 use Rattle.rules.specs.Subject.{Period, is_estimated, unmetered, Cause, absent, under, over, stopped, altered, Side, consumer, supplier, Finding, Method, day_weight, peak_weight}
-use Rattle.rules.specs.Laid.{run_on, run_past, may_stand, six_at_most, in_span, rewrites_sort, rewrites, rewritten, corrected}
+use Rattle.rules.specs.Laid.{run_on, run_past, in_span, rewrites_sort, rewrites, rewritten, corrected}
+use Rattle.account.specs.Few.{may_stand, six_at_most}
 use Rattle.rules.specs.Questions.{size, of_sort, every, sort_fits, sorts_right, row_is, has_day, span_right}
 use Rattle.rules.proofs.Units.{or_then}
 
