@@ -250,7 +250,7 @@ push_at [] q (suc row) h = refl
 push_at (p ∷ ps) q zero h = refl
 push_at (p ∷ ps) q (suc row) h = push_at ps q row (λ e. h (ap suc e))
 
-length-corrected : (f : Finding) (m : Method) (ps : List Period) → length (corrected f m 0 0 0 ps) ≡ length ps
+pub length-corrected : (f : Finding) (m : Method) (ps : List Period) → length (corrected f m 0 0 0 ps) ≡ length ps
 length-corrected f m ps =
     sym (length-map (corrected f m 0 0 0 ps) without_standing) ∙ ap length (all_kept f m 0 0 0 ps) ∙ length-map ps without_standing
 

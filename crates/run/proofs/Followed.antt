@@ -2,14 +2,13 @@
 use Rattle.std.proofs.Common.{◌≡◌, ℕ, ◌+◌, ◌-◌, suc, ◌≤◌, eqb, List, [], ◌∷◌, ◌++◌, map, length, drop, Some, Option, sym, refl, ap, ap₂, ◌∙◌, subst, arith}
 use Rattle.std.proofs.lemmas.Bool.{cond_both}
 use Rattle.std.proofs.lemmas.List.{length-append, length-map, drop-drop, map_push}
-use Rattle.rules.specs.Subject.{Period, Tariff, Finding, Method, day_weight, peak_weight, Call, take, hand_back, bill, estimate, correct, pay, Opening}
+use Rattle.rules.specs.Subject.{Period, Tariff, Call, take, hand_back, bill, estimate, correct, pay, Opening}
 use Rattle.rules.specs.Questions.{question}
-use Rattle.rules.specs.Laid.{laid, with_standing, rewrites, corrected}
-use Rattle.rules.specs.Given.{give, given, accepted}
+use Rattle.rules.specs.Given.{billed, given, accepted}
 use Rattle.rules.specs.Shown.{Answer, State}
-use Rattle.rules.specs.Owed.{billed}
 use Rattle.rules.specs.Journal.{lines}
 use Rattle.rules.specs.Law.{Law, answer_to}
+use Rattle.rules.proofs.Laying.{length-corrected}
 use Rattle.account.specs.declared.account.Account.{Account}
 use Rattle.account.specs.State.{state_of, opening_of, Same, Keeps, LawfulAfter}
 use Rattle.account.proofs.Calls.{rows_length, lines_length}
@@ -18,23 +17,14 @@ use Rattle.run.specs.Runs.{onto, answers_to, Follows}
 longer : {X : Type 0} (xs ys : List X) → length xs ≤ length (xs ++ ys)
 longer xs ys = omega (arith, length-append xs ys)
 
-corrected_length : (f : Finding) (m : Method) (row V W : ℕ) (ps : List Period) → length (corrected f m row V W ps) ≡ length ps
-unfolding corrected
-corrected_length f m row V W [] = refl
-corrected_length f m row V W (p ∷ ps) =
-    let rest = λ (v w : ℕ). corrected f m (suc row) v w ps in
-    cond_both (rewrites f row p) (with_standing (laid m V W p) p ∷ rest (V + day_weight m p) (W + peak_weight m p)) (p ∷ rest V W) (λ (qs : List Period). length qs ≡ suc (length ps))
-    (λ e. ap suc (corrected_length f m (suc row) _ _ ps))
-    (λ e. ap suc (corrected_length f m (suc row) V W ps))
-
 -- no call takes a billed period away
 billed_more : (o : Opening) (c : Call) (calls : List Call) → length (billed o calls) ≤ length (billed o (c ∷ calls))
-unfolding given give
+unfolding billed
 billed_more o (take now length) calls = omega arith
 billed_more o (hand_back hold) calls = omega arith
 billed_more o (bill hold last r) calls = longer (billed o calls) _
 billed_more o (estimate hold last m) calls = longer (billed o calls) _
-billed_more o (correct hold f m) calls = omega (arith, corrected_length f m 0 0 0 (billed o calls))
+billed_more o (correct hold f m) calls = omega (arith, length-corrected f m (billed o calls))
 billed_more o (pay hold cents) calls = omega arith
 
 -- nor a line
