@@ -2,7 +2,7 @@ use Rattle.std.proofs.Common.{refl}
 use Rattle.rules.specs.Sharing.{whole, brought}
 use Rattle.rules.specs.Laid.{rewritten, corrected}
 use Rattle.rules.specs.Questions.{asked}
-use Rattle.rules.specs.Given.{given}
+use Rattle.rules.specs.Given.{billed, used}
 use Rattle.worked.proofs.worked_figures_stand.Goals as goal
 
 pub returns : goal.returns
