@@ -1,1 +1,5 @@
 pub mod Worked
+pub mod Asked
+pub mod Limits
+pub mod Spans
+pub mod Orders

@@ -1,10 +1,13 @@
 -- Cases worked out by hand, beside what the definitions give. Assumes nothing.
-use Rattle.std.specs.Prelude.{◌≡◌, ℕ, true, cond, List, [], ◌∷◌, map, Ok, Err, Result}
-use Rattle.rules.specs.Subject.{Registers, Period, charge_on, estimated, no_energy, Cause, absent, under, over, stopped, altered, consumer, Finding, correcting, Method, take, bill, Opening}
+use Rattle.std.specs.Prelude.{◌≡◌, ℕ, true, cond, List, [], ◌∷◌, map, length, replicate, Ok, Err, Result}
+use Rattle.rules.specs.Subject.{Registers, Period, charge_on, estimated, no_energy, Cause, absent, under, over, stopped, altered, consumer, supplier, Finding, correcting, Method, Call, take, bill, correct, Opening}
 use Rattle.rules.specs.Sharing.{sum_of, whole, shares, instalment}
 use Rattle.rules.specs.Laid.{metered, blank, run, rewritten, corrected}
 use Rattle.rules.specs.Questions.{question, bills, sorts_right}
 use Rattle.rules.specs.Given.{given}
+use Rattle.rules.specs.Shown.{Instalment}
+use Rattle.rules.specs.Owed.{instalments}
+use Rattle.rules.specs.Machine.{opened}
 use Rattle.tariff.specs.Hotel.{hotel_1}
 use Rattle.method.specs.Made.{test_made, contract_made, previous_made}
 
@@ -59,6 +62,18 @@ billed_to last = question opening (given opening (take 0 10 ∷ [])) (bill 1 las
 abbrev pub taken_at : (now : ℕ) → ℕ
 taken_at now = question opening (given opening (take 100 10 ∷ [])) (take now 1)
 
+-- three rows of 100 units are corrected together, and then the first of them anew
+abbrev pub twice_under : Method → Method → List Call
+twice_under m n =
+    correct 1 (finding under 0 0) n
+    ∷ correct 1 (record (finding under 0 2) { side = supplier }) m
+    ∷ bill 1 89 (day_only 100) ∷ bill 1 59 (day_only 100) ∷ bill 1 29 (day_only 100) ∷ take 0 10 ∷ []
+
+-- what the coming bills bring of both
+abbrev pub coming : Result Method ℕ → Result Method ℕ → List Instalment
+coming (Ok m) (Ok n) = instalments (hotel_1 10) opening 12 0 (twice_under m n)
+coming m n = []
+
 -- what the definitions give, and what was worked out
 abbrev pub table : List (List ℕ × List ℕ)
 table =
@@ -97,7 +112,12 @@ table =
     -- a correction rewrites the first and the last row of its span, and no row beside it
     ∷ (map (λ p. p.first) (rewritten (finding over 1 2) 0 stopped_after), 30 ∷ 60 ∷ [])
     -- a run begins anew after a read row
-    ∷ (run unmetered_between ∷ run (read_row 0 0 0 ∷ blank 1 1 estimated ∷ read_row 2 2 0 ∷ blank 3 3 no_energy ∷ []) ∷ [], 0 ∷ 1 ∷ []) ∷ []
+    ∷ (run unmetered_between ∷ run (read_row 0 0 0 ∷ blank 1 1 estimated ∷ read_row 2 2 0 ∷ blank 3 3 no_energy ∷ []) ∷ [], 0 ∷ 1 ∷ [])
+    -- 200 units more at 1,140 cents are 228,000 over three bills, and then 200 units for 166 are 38,760 over one
+    ∷ (map (λ i. i.cents) (coming (test_made 600 1000) (test_made 500 1000)), 114760 ∷ 76000 ∷ 76000 ∷ replicate 9 0)
+    ∷ (map (λ i. i.count) (coming (test_made 600 1000) (test_made 500 1000)), 2 ∷ 1 ∷ 1 ∷ replicate 9 0)
+    -- an account begins with twelve coming bills
+    ∷ (length opened.coming ∷ [], 12 ∷ []) ∷ []
 
 abbrev pub WorkedFigures : Type 0
 WorkedFigures = map (λ c. c.0) table ≡ map (λ c. c.1) table

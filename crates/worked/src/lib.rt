@@ -2,8 +2,18 @@
 #![tactic(auto)]
 
 ghost use Rattle.worked.specs.Worked.{WorkedFigures};
+ghost use Rattle.worked.specs.Limits.{WorkedLimits};
+ghost use Rattle.worked.specs.Spans.{WorkedSpans};
+ghost use Rattle.worked.specs.Orders.{WorkedOrders};
 
 /// The definitions give every figure of the table.
 pub fn worked_figures_stand()
     ensures { WorkedFigures }
+{}
+
+/// The questions refuse what they were worked out to refuse: at the limits, at the edges of each cause's rule, and in their order.
+pub fn worked_questions_stand()
+    ensures limits { WorkedLimits }
+    ensures spans { WorkedSpans }
+    ensures orders { WorkedOrders }
 {}
