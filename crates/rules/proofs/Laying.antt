@@ -1,5 +1,5 @@
 -- What each call lays down. Assumes nothing.
-use Rattle.std.proofs.Common.{◌≡◌, ℕ, zero, suc, ◌+◌, ◌-◌, ◌<◌, ◌≤◌, Bool, true, false, cond, not, ◌&&◌, ◌||◌, eqb, leb, List, [], ◌∷◌, ◌++◌, map, length, take as first_of_list, drop, slice_get, inl, inr, sym, refl, ap, ◌∙◌, ap₂, subst, arith}
+use Rattle.std.proofs.Common.{◌≡◌, ℕ, zero, suc, ◌+◌, ◌-◌, ◌<◌, ◌≤◌, Bool, true, false, cond, not, ◌&&◌, ◌||◌, eqb, leb, List, [], ◌∷◌, ◌++◌, map, length, take as leading, drop, slice_get, inl, inr, sym, refl, ap, ◌∙◌, ap₂, subst, arith}
 use Rattle.std.specs.Prelude.{filter}
 use Rattle.std.proofs.lemmas.Bool.{cond_both, cond-true, cond-false, leb-true, leb-false, le-leb, lt-leb, eqb-false, and_from, and_left, and_right, cases_lt, cases_Bool}
 use Rattle.std.proofs.lemmas.List.{length-map, length_push}
@@ -9,10 +9,10 @@ use Rattle.rules.specs.Laid.{next_day, run_on, run_past, run, laid, with_standin
 use Rattle.rules.specs.Questions.{is_absent, row_is}
 use Rattle.rules.specs.Given.{billed}
 use Rattle.rules.specs.Law.{Every}
-use Rattle.rules.specs.Laying.{estimates_since_bill, Unread, laid_anew, without_standing, ByMethod, CorrectedBy, Lays, lays_for, StandsAsLaid}
+use Rattle.rules.specs.Laying.{estimates_since_bill, Unmetered, laid_anew, without_standing, ByMethod, CorrectedBy, Lays, lays_for, StandsAsLaid}
 use Rattle.rules.proofs.Shares.{sharing_rule}
 
-taken_none : (n : ℕ) → ◌≡◌ {A = List Period} (first_of_list n []) []
+taken_none : (n : ℕ) → ◌≡◌ {A = List Period} (leading n []) []
 taken_none zero = refl
 taken_none (suc n) = refl
 
@@ -102,7 +102,7 @@ module _ (f : Finding) (m : Method) where
   rewritten_past row (p ∷ ps) h =
       cond-false (rewrites f row p) _ _ (and_left _ _ (and_right _ _ (lt-leb row f.last h))) ∙ rewritten_past (suc row) ps (omega (arith, h))
 
-  rewritten_within : (n row : ℕ) (ps : List Period) → f.first ≤ row → n ≡ f.last + 1 - row → rewritten f row ps ≡ filter anew (first_of_list n ps)
+  rewritten_within : (n row : ℕ) (ps : List Period) → f.first ≤ row → n ≡ f.last + 1 - row → rewritten f row ps ≡ filter anew (leading n ps)
   unfolding rewritten
   rewritten_within zero row ps h e = rewritten_past row ps (omega (arith, e))
   rewritten_within (suc n) row [] h e = refl
@@ -111,7 +111,7 @@ module _ (f : Finding) (m : Method) where
       ap₂ (λ a b. cond (a && b) (p ∷ rewritten f (suc row) ps) (rewritten f (suc row) ps)) spanned (sorts_said f.cause p.sort)
       ∙ ap (λ xs. cond (anew p) (p ∷ xs) xs) (rewritten_within n (suc row) ps (omega (arith, h)) (omega (arith, e)))
 
-  rewritten_from : (k row : ℕ) (ps : List Period) → row + k ≡ f.first → rewritten f row ps ≡ filter anew (first_of_list (f.last + 1 - f.first) (drop k ps))
+  rewritten_from : (k row : ℕ) (ps : List Period) → row + k ≡ f.first → rewritten f row ps ≡ filter anew (leading (f.last + 1 - f.first) (drop k ps))
   unfolding rewritten
   rewritten_from zero row ps e = rewritten_within (f.last + 1 - f.first) row ps (omega (arith, e)) (omega (arith, e))
   rewritten_from (suc k) row [] e = sym (ap (filter anew) (taken_none (f.last + 1 - f.first)))
@@ -206,11 +206,11 @@ run_counted o (estimate hold last m ∷ before) =
 run_counted o (correct hold f m ∷ before) = run_corrected f m (billed o before) ∙ run_counted o before
 run_counted o (pay hold cents ∷ before) = run_counted o before
 
-unread : (first until n : ℕ) (m : Method) (ps : List Period) → run ps ≡ n → Unread first until n m ps (ps ++ (without_reading first until m ps ∷ []))
+unmetered_last : (first until n : ℕ) (m : Method) (ps : List Period) → run ps ≡ n → Unmetered first until n m ps (ps ++ (without_reading first until m ps ∷ []))
 unfolding without_reading
-unread first until n m ps e =
+unmetered_last first until n m ps e =
     let p = blank first until estimated in
-    cond_both (is_late ps) (blank first until no_energy) (with_standing (laid m 0 0 p) p) (λ q. Unread first until n m ps (ps ++ (q ∷ [])))
+    cond_both (is_late ps) (blank first until no_energy) (with_standing (laid m 0 0 p) p) (λ q. Unmetered first until n m ps (ps ++ (q ∷ [])))
     (λ late. record {
       period = blank first until no_energy;
       added = refl;
@@ -235,7 +235,7 @@ unfolding billed
 lays_down o (take now length) before = refl
 lays_down o (hand_back hold) before = refl
 lays_down o (bill hold last r) before = refl
-lays_down o (estimate hold last m) before = unread (next_day o.day (billed o before)) last _ m (billed o before) (run_counted o before)
+lays_down o (estimate hold last m) before = unmetered_last (next_day o.day (billed o before)) last _ m (billed o before) (run_counted o before)
 lays_down o (correct hold f m) before = corrected_lays f m (billed o before)
 lays_down o (pay hold cents) before = refl
 

@@ -1,4 +1,4 @@
--- What a call lays down for the periods that it adds or rewrites. Assumes nothing.
+-- What a call lays down for the periods that it adds or rewrites.
 use Rattle.std.specs.Prelude.{ℕ, suc, ◌+◌, Bool, true, cond, ◌&&◌, List, [], ◌∷◌, nat_le}
 use Rattle.rules.specs.Subject.{Registers, zeros, day_units, peak_units, Sort, read, estimated, no_energy, Period, days, is_estimated, unmetered, Cause, absent, Finding, Method, day_weight, peak_weight}
 use Rattle.rules.specs.Sharing.{share}
@@ -8,7 +8,7 @@ abbrev pub next_day : ℕ → List Period → ℕ
 next_day opening [] = opening
 next_day opening (p ∷ ps) = next_day (p.last + 1) ps
 
--- how many unmetered periods stand in a row with p, where n do before it: a run ends only at a period that is read
+-- how many unmetered periods a run has with p, where it has n before: it ends only at a period that is read
 abbrev pub run_on : ℕ → Period → ℕ
 run_on n p = cond (unmetered p) (n + 1) 0
 

@@ -1,5 +1,5 @@
--- What each call lays down, between the periods before it and those after it. Assumes nothing.
-use Rattle.std.specs.Prelude.{◌≡◌, ℕ, ◌+◌, ◌-◌, ◌<◌, ◌≤◌, Bool, true, false, not, ◌&&◌, ◌||◌, List, [], ◌∷◌, ◌++◌, map, length, take as first_of_list, drop, filter, slice_get, ◌==◌, nat_le}
+-- What each call lays down, between the periods before it and those after it, and what then stands.
+use Rattle.std.specs.Prelude.{◌≡◌, ℕ, ◌+◌, ◌-◌, ◌<◌, ◌≤◌, Bool, true, false, not, ◌&&◌, ◌||◌, List, [], ◌∷◌, ◌++◌, map, length, take as leading, drop, filter, slice_get, ◌==◌, nat_le}
 use Rattle.rules.specs.Subject.{zeros, Register, units, read, estimated, no_energy, Period, days, is_estimated, Finding, Method, Call, take, hand_back, bill, estimate, correct, pay, Opening}
 use Rattle.rules.specs.Sharing.{Shared}
 use Rattle.rules.specs.Laid.{next_day}
@@ -13,26 +13,26 @@ estimates_since_bill (bill hold last r ∷ calls) = 0
 estimates_since_bill (estimate hold last m ∷ calls) = estimates_since_bill calls + 1
 estimates_since_bill (c ∷ calls) = estimates_since_bill calls
 
--- what a method gives rows of these periods: of each register units by the sharing rule, in the order of the rows, and a demand for each;
--- it rests on the days and the recorded registers that the rows have in old, and is what stands for them in new
+-- rows stand in new as a method has it: of each register the units are shared by the sharing rule, in the order of the rows, and each row
+-- has its demand; both rest on the days and the recorded registers in old
 pub record ByMethod (m : Method) (old new : List Period) : Type 0 where
   pub shared : (k : Register) → Shared (m.upper k) m.lower (map (λ p. m.weight k (days p) p.recorded) old) (map (λ p. units k p.standing) new)
   pub demands : map (λ p. p.standing.demand) new ≡ map (λ p. m.demand (days p) p.recorded) old
 
--- one period more, on which nothing was recorded: the first six estimates since a bill are given what their method gives them alone, and
--- from the seventh on nothing
-pub record Unread (first until estimates : ℕ) (m : Method) (old new : List Period) : Type 0 where
+-- one period more, on which nothing was recorded: each of the first six estimates since a bill stands as its method has it alone, and from
+-- the seventh on without energy
+pub record Unmetered (first last estimates : ℕ) (m : Method) (old new : List Period) : Type 0 where
   pub period : Period
   pub added : new ≡ old ++ (period ∷ [])
   pub begins : period.first ≡ first
-  pub ends : period.last ≡ until
+  pub ends : period.last ≡ last
   pub recorded : period.recorded ≡ zeros
   pub six : estimates < 6 → (period.sort ≡ estimated) × ByMethod m (period ∷ []) (period ∷ [])
   pub seventh : 6 ≤ estimates → (period.sort ≡ no_energy) × (period.standing ≡ zeros)
 
 -- the rows of a finding's span, and of them those that it lays down anew: for the cause absent the estimated ones
 abbrev pub span_of : Finding → List Period → List Period
-span_of f ps = first_of_list (f.last + 1 - f.first) (drop f.first ps)
+span_of f ps = leading (f.last + 1 - f.first) (drop f.first ps)
 
 abbrev pub laid_anew : Finding → List Period → List Period
 laid_anew f ps = filter (λ p. not (is_absent f.cause) || is_estimated p.sort) (span_of f ps)
@@ -59,7 +59,7 @@ LaysDown o (take now length) before old new = new ≡ old
 LaysDown o (hand_back hold) before old new = new ≡ old
 LaysDown o (bill hold last r) before old new =
     new ≡ old ++ (record { first = next_day o.day old; last = last; sort = read; recorded = r; standing = r } ∷ [])
-LaysDown o (estimate hold last m) before old new = Unread (next_day o.day old) last (estimates_since_bill before) m old new
+LaysDown o (estimate hold last m) before old new = Unmetered (next_day o.day old) last (estimates_since_bill before) m old new
 LaysDown o (correct hold f m) before old new = CorrectedBy f m old new
 LaysDown o (pay hold cents) before old new = new ≡ old
 
@@ -74,7 +74,7 @@ lays_for o (estimate hold last m) before row = row == length (billed o before)
 lays_for o (correct hold f m) before row = lays_anew f (billed o before) row
 lays_for o c before row = false
 
--- of the calls later, which came after those before, none lays any down for the row
+-- none of the later calls, made after those before, lays registers down for the row
 abbrev pub NoneLays : Opening → (row : ℕ) → (later before : List Call) → Type 0
 NoneLays o row [] before = Unit
 NoneLays o row (c ∷ later) before = (lays_for o c (later ++ before) row ≡ false) × NoneLays o row later before

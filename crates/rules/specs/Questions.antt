@@ -1,8 +1,9 @@
--- The questions before a call is accepted. Assumes nothing.
+-- The questions before a call is accepted.
 use Rattle.std.specs.Prelude.{◌≡◌, ℕ, zero, suc, ◌+◌, ◌-◌, min, Bool, true, false, cond, not, ◌&&◌, ◌||◌, List, [], ◌∷◌, ◌++◌, length, Some, None, Ok, Err, Option, Result, ◌==◌, nat_eq, nat_le, nat_lt}
 use Rattle.rules.specs.Subject.{Registers, longest, Sort, Period, is_read, is_unmetered, unmetered, Cause, absent, under, over, stopped, altered, Side, consumer, supplier, Finding, Method, estimates, correcting, Call, take, hand_back, bill, estimate, correct, pay, Opening}
 use Rattle.rules.specs.Laid.{next_day, is_late, unmetered_by, in_span, rewritten, corrected}
 
+-- a hold, and the second from which another may take it over
 pub record Hold : Type 0 where
   pub number : ℕ
   pub until : ℕ
@@ -42,12 +43,12 @@ is_time now length = nat_le now 1000000000000 && (nat_le 1 length && nat_le leng
 abbrev pub is_term : (first last : ℕ) → Bool
 is_term first last = nat_le first last && nat_le (last + 1 - first) longest
 
--- every period of ps, which begin at the row given, passes the test of its row and itself
+-- every period passes a test of its row and itself; the first of ps is in the row given
 abbrev pub every : (ℕ → Period → Bool) → (row : ℕ) → List Period → Bool
 every q row [] = true
 every q row (p ∷ ps) = q row p && every q (suc row) ps
 
--- some period has this row, and passes the test
+-- there is a period in this row, and it passes the test
 abbrev pub row_is : (Period → Bool) → List Period → ℕ → Bool
 row_is q [] row = false
 row_is q (p ∷ ps) zero = q p

@@ -1,4 +1,4 @@
--- How units are shared over rows, and an undercharge over bills. Assumes nothing.
+-- How units are shared over rows, and an undercharge over bills.
 use Rattle.std.specs.Prelude.{◌≡◌, ℕ, zero, suc, ◌+◌, ◌-◌, ◌*◌, ◌/◌, ◌<◌, ◌≤◌, min, List, [], ◌∷◌, take}
 
 -- what f gives over the whole list

@@ -1,4 +1,4 @@
--- What an account shows, and what it answers. Assumes nothing.
+-- What an account shows, and what it answers.
 use Rattle.std.specs.Prelude.{ℕ, List, ℤ, Option}
 use Rattle.rules.specs.Subject.{Period, Tariff, charge}
 use Rattle.rules.specs.Questions.{Hold}

@@ -1,4 +1,4 @@
--- The subject: periods, tariffs, methods, calls. Assumes nothing.
+-- The subject: periods, tariffs, methods, calls.
 use Rattle.std.specs.Prelude.{ℕ, ◌+◌, ◌-◌, ◌*◌, ◌≤◌, Bool, true, false}
 
 -- day units and peak units in kWh, and a maximum demand in kVA
@@ -65,7 +65,7 @@ pub record Tariff : Type 0 where
   pub energy_limit : (last : ℕ) (r : Registers) → energy last r ≤ 100000 * (r.day + r.peak)
   pub standing_limit : (last demand : ℕ) → demand ≤ 10000 → standing last demand ≤ 10000000000
 
--- a tariff's charge on registers at a last day, and on a period: what stands in its row
+-- a tariff's charge on registers at a last day, and on a period: by the registers that stand for it
 abbrev pub charge_on : Tariff → ℕ → Registers → ℕ
 charge_on t last r = t.energy last r + t.standing last r.demand
 
