@@ -79,7 +79,7 @@ impl<'a, T: Tariff> Account<'a, T> {
     {
         let hold = self.ask_correct(hold, f, m)?;
         let before = self.journal.len();
-        let u = relaying::relay(
+        let u = relaying::relay_sheet(
             &mut self.tariff,
             m,
             f,

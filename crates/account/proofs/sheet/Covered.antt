@@ -9,7 +9,7 @@ use Rattle.rules.specs.Machine.{period_of, relay, posts}
 use Rattle.figures.specs.View.{seen, period_seen}
 use Rattle.figures.specs.declared.row.Row.{Row}
 use Rattle.account.specs.Rows.{periods, span_start, span_end, covered}
-use Rattle.account.proofs.sheet.Beside.{within_span, by_sort, rewrites_inside, rewritten_between, asked_between, relay_between, posts_between}
+use Rattle.account.proofs.sheet.Beside.{within_span, by_sort, rewritten_between, asked_between, relay_between, posts_between}
 use Rattle.account.proofs.sheet.Sorts.{every_between}
 
 module _ (f : Finding) (rows : List Row) where
@@ -121,18 +121,6 @@ covered_part f memory n h =
     sym (take-take (e - s) (n - s) (drop s memory) (omega arith))
     ∙ ap (take (e - s)) (sym (drop-take s (n - s) memory) ∙ ap (λ k. drop s (take k memory)) rest)
     ∙ ap (λ k. take (span_end f k - span_start f k) (drop (span_start f k) (take n memory))) (sym (length-take-le n memory h))
-
--- the places of the span among n rows, from s up to e
-module _ (f : Finding) (n s e : ℕ) (start : s ≡ span_start f n) (end : e ≡ span_end f n) where
-  pub places_ordered : s ≤ e
-  places_ordered = omega arith
-
-  pub places_within : e ≤ n
-  places_within = omega arith
-
-  -- a row at one of them is rewritten by its sort
-  pub place_by_sort : (k : ℕ) (p : Period) (b : Bool) → s ≤ k → k < e → b ≡ rewrites_sort f.cause p.sort → rewrites f (s + (k - s)) p ≡ b
-  place_by_sort k p b after before h = rewrites_inside f (s + (k - s)) p (within_span f (s + (k - s)) (omega arith) (omega arith)) ∙ sym h
 
 -- a row of the span is rewritten by its sort
 pub covered_by_sort : (f : Finding) (all rows : List Row) (i : ℕ) (p : Period) (b : Bool) → rows ≡ covered f all → i < length rows → b ≡ rewrites_sort f.cause p.sort → rewrites f (span_start f (length all) + i) p ≡ b

@@ -16,8 +16,8 @@ returns-in_err-hold g c =
     let r = refused_by g.T.Tariff.meaning c.args.self.now (correct c.args.hold (finding_of c.args.f) (g.M.Method.meaning c.args.m.now)) (λ u. u.0) c.from_residual.result c.in_err-hold.field-0.0 c.from_residual.ensures.1 c.in_err-hold.ensures in
     record { after = r.0; law = r.1 }
 
-pub relay-u-requires : goal.relay-u-requires
-relay-u-requires g c =
+pub relay_sheet-u-requires : goal.relay_sheet-u-requires
+relay_sheet-u-requires g c =
     let a = c.args.self.now in
     let y = correct_yes a c.args.hold (finding_of c.args.f) (g.M.Method.meaning c.args.m.now) c.in_ok-hold.ensures.0 in
     let s = a.sheet.within_limit in
@@ -30,7 +30,7 @@ overflow_cast-lines g c =
     let f = finding_of c.args.f in
     let m = g.M.Method.meaning c.args.m.now in
     let y = correct_yes a c.args.hold f m c.in_ok-hold.ensures.0 in
-    let d = added a _ (g.T.Tariff.meaning a.tariff) c.in_ok-hold.hold f m y c.relay-u.ensures.lines in
+    let d = added a _ (g.T.Tariff.meaning a.tariff) c.in_ok-hold.hold f m y c.relay_sheet-u.ensures.lines in
     omega (arith, d.within, d.most)
 
 pub bills-requires : goal.bills-requires
@@ -47,10 +47,10 @@ correct-requires g c =
     let f = finding_of c.args.f in
     let m = g.M.Method.meaning c.args.m.now in
     let y = correct_yes a c.args.hold f m c.in_ok-hold.ensures.0 in
-    let d = added a _ (g.T.Tariff.meaning a.tariff) c.in_ok-hold.hold f m y c.relay-u.ensures.lines in
+    let d = added a _ (g.T.Tariff.meaning a.tariff) c.in_ok-hold.hold f m y c.relay_sheet-u.ensures.lines in
     let n = a.counted in
     let filled = d.filled in
-    let u = c.relay-u.ensures.small in
+    let u = c.relay_sheet-u.ensures.small in
     let low = u.low in
     let high = u.high in
     record { few = omega (arith, d.within, d.most); within = (omega (arith, ints), omega (arith, ints)); modest = omega (arith, ints, y.few, length-posts (g.T.Tariff.meaning a.tariff) f m c.in_ok-hold.hold 0 0 0 (state_of a).rows) }
@@ -61,8 +61,8 @@ invariant_of-self g c =
     let f = finding_of c.args.f in
     let m = g.M.Method.meaning c.args.m.now in
     let y = correct_yes a c.args.hold f m c.in_ok-hold.ensures.0 in
-    let w = c.relay-u.ensures.lines in
-    let r = c.relay-u.ensures.rows in
+    let w = c.relay_sheet-u.ensures.lines in
+    let r = c.relay_sheet-u.ensures.rows in
     let d = added a _ (g.T.Tariff.meaning a.tariff) c.in_ok-hold.hold f m y w in
     let lines = ap (λ (t : Totals). t.lines) c.correct.ensures in
     let n = a.counted in
@@ -80,7 +80,7 @@ returns g c =
     let t = mean a.tariff in
     let f = finding_of c.args.f in
     let m = g.M.Method.meaning c.args.m.now in
-    let e = c.relay-u.ensures in
+    let e = c.relay_sheet-u.ensures in
     let r = changed_done mean a _ _ _ _ (record {
       granted = refl;
       holding = refl;
@@ -92,5 +92,5 @@ returns g c =
       journal = e.lines;
       sums = c.correct.ensures;
       memory = record { sheet = e.lent.0; journal = e.lent.1 };
-    }) (correct c.args.hold f m) c.relay-u.result.0 c.in_ok-hold.ensures.0 (e.sum ∙ ap (λ z. cents_of (posts t f m z 0 0 0 (state_of a).rows)) c.in_ok-hold.ensures.1) (corrected_is t (opening_of a) a c.in_ok-hold.hold c.args.hold f m c.relay-u.result.0 c.bills.result.count (c.relay-u.new.journal.filled - a.journal.filled) c.in_ok-hold.ensures.1 e.sum c.bills.ensures) in
+    }) (correct c.args.hold f m) c.relay_sheet-u.result.0 c.in_ok-hold.ensures.0 (e.sum ∙ ap (λ z. cents_of (posts t f m z 0 0 0 (state_of a).rows)) c.in_ok-hold.ensures.1) (corrected_is t (opening_of a) a c.in_ok-hold.hold c.args.hold f m c.relay_sheet-u.result.0 c.bills.result.count (c.relay_sheet-u.new.journal.filled - a.journal.filled) c.in_ok-hold.ensures.1 e.sum c.bills.ensures) in
     record { after = r.0; law = r.1 }
