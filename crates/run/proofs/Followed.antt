@@ -1,8 +1,8 @@
 -- Calls made one after another: the law, the answers, and the memory past the filled parts.
-use Rattle.std.proofs.Common.{◌≡◌, ℕ, ◌+◌, ◌-◌, suc, ◌≤◌, eqb, List, [], ◌∷◌, ◌++◌, map, length, drop, Some, Option, sym, refl, ap, ap₂, ◌∙◌, subst, arith}
+use Rattle.std.proofs.Common.{◌≡◌, ℕ, ◌+◌, ◌-◌, ◌≤◌, eqb, List, [], ◌∷◌, ◌++◌, map, length, drop, Some, Option, sym, refl, ap, ap₂, ◌∙◌, subst, arith}
 use Rattle.std.proofs.lemmas.Bool.{cond_both}
 use Rattle.std.proofs.lemmas.List.{length-append, length-map, drop-drop, map_push}
-use Rattle.rules.specs.Subject.{Period, Tariff, Call, take, hand_back, bill, estimate, correct, pay, Opening}
+use Rattle.rules.specs.Subject.{Tariff, Call, take, hand_back, bill, estimate, correct, pay, Opening}
 use Rattle.rules.specs.Questions.{question}
 use Rattle.rules.specs.Given.{billed, given, accepted}
 use Rattle.rules.specs.Shown.{Answer, State}
