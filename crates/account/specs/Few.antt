@@ -1,4 +1,4 @@
--- At most six rows of an unmetered run are estimated, in every sheet.
+-- At most six rows of an unmetered run are estimated, in the sheet of every account.
 use Rattle.std.specs.Prelude.{ℕ, Bool, true, not, ◌&&◌, ◌||◌, List, [], ◌∷◌, nat_lt}
 use Rattle.rules.specs.Subject.{Period, is_estimated}
 use Rattle.rules.specs.Laid.{run_on}

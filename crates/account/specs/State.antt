@@ -39,7 +39,8 @@ pub record OverTheSame {T : Type 0} (a b : Account T) : Type 0 where
   pub sheet : OneMemory a.sheet b.sheet
   pub journal : OneMemory a.journal b.journal
 
--- b is an account as a was opened, its tariff means what a's did, and it is over the same memory, which past the filled parts is as it was
+-- b is opened as a was, its tariff means what a's does, and it is over the same memory, in which nothing past the filled
+-- parts is changed
 pub record Same {T : Type 0} (mean : T → Tariff) (a b : Account T) : Type 0 where
   pub opening : opening_of b ≡ opening_of a
   pub tariff : mean b.tariff ≡ mean a.tariff
@@ -58,8 +59,8 @@ pub record Stepped {T : Type 0} (mean : T → Tariff) (a b : Account T) (c : Cal
 abbrev pub Keeps : {T : Type 0} (mean : T → Tariff) (h : List Call) (a : Account T) → Type 0
 Keeps mean h a = Law (mean a.tariff) (opening_of a) h (state_of a)
 
--- a call by the law: b is the account that a was opened as; and whatever history a keeps the law of, b keeps the law of the history with
--- this call, which was answered as the history has it
+-- a call by the law: b is opened as a was, over the same memory (Same); and whatever history a keeps the law of, b keeps
+-- the law of it with this call, which was answered as the history has it
 pub record LawfulAfter {T : Type 0} (mean : T → Tariff) (a b : Account T) (c : Call) (r : Answer) : Type 0 where
   pub same : Same mean a b
   pub law : (h : List Call) → Keeps mean h a → Keeps mean (c ∷ h) b

@@ -18,8 +18,8 @@ pub struct Hold {
 }
 
 /// The sums hold what the journal's lines moved, so each is small while the journal is. At most six rows of an unmetered run are
-/// estimated, so no correction rewrites more than twelve. Each of the calls takes by name what a clerk's call carries: a struct of
-/// hold, finding or method would be made for one call and taken apart in it.
+/// estimated, so a correction for the cause absent rewrites no more; any other has at most twelve by its span. Each of the calls
+/// takes by name what a clerk's call carries: a struct of hold, finding or method would be made for one call and taken apart in it.
 #[derive(Drop)]
 pub struct Account<'a, T> {
     pub(crate) tariff: T,

@@ -33,7 +33,7 @@ impl<'a, T> Account<'a, T> {
         }
     }
 
-    /// Whether the sheet has a place. No twin of the journal's question, which is about n lines and gives another refusal.
+    /// Whether the sheet has a place.
     pub(crate) fn sheet_takes(&self) -> Result<(), Refusal>
         ensures { Says (nat_lt (length (periods_of (state_of self.now))) (sheet_room (opening_of self.now))) (λ _. self.now.sheet.filled < self.now.sheet.limit) SheetFull result }
     {

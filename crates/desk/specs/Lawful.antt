@@ -1,4 +1,4 @@
--- The run of calls that an account follows, and the lines that are served to it. Histories are newest first. Assumes nothing.
+-- The call that a line makes after a history, and what serving the line promises by the law. Histories are newest first.
 use Rattle.std.specs.Prelude.{◌≡◌, ℕ, List, ℤ, Result}
 use Rattle.rules.specs.Subject.{Tariff, Call, Opening}
 use Rattle.rules.specs.Given.{accepted, billed}
@@ -13,8 +13,8 @@ use Rattle.desk.specs.Called.{outcome_of}
 abbrev pub call_after : Opening → List Call → List ℕ → Result Call Outcome
 call_after o h line = line_call (billed o (accepted o h)) (event_of line)
 
--- a line by the law: b is the account that a was opened as; and whatever history a keeps the law of, b keeps the law of the history with
--- the line's call, if it makes one, and the line was answered as the history has it
+-- a line by the law: b is opened as a was, over the same memory (Same); and whatever history a keeps the law of, b keeps
+-- the law of it with the line's call, if it makes one, and the line was answered as the history has it
 pub record LawfulLine {T : Type 0} (mean : T → Tariff) (a b : Account T) (line : List ℕ) (r : Result ℤ Fault) : Type 0 where
   pub same : Same mean a b
   pub law : (h : List Call) → Keeps mean h a → Keeps mean (with_call h (call_after (opening_of a) h line)) b

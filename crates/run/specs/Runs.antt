@@ -22,19 +22,19 @@ abbrev pub answers_to : Tariff → Opening → (h cs : List Call) → List Answe
 answers_to t o h [] = []
 answers_to t o h (c ∷ cs) = answer_to t o h c ∷ answers_to t o (c ∷ h) cs
 
--- all of them were made after it, and these answers written
+-- the answers written beside these calls, made after the history, are those
 abbrev pub AllAnswered : Tariff → Opening → (h cs : List Call) → List (Option Answer) → Type 0
 AllAnswered t o h cs rs = rs ≡ map Some (answers_to t o h cs)
 
 module _ {T : Type 0} (mean : T → Tariff) where
-  -- these calls turned the account a, which keeps the law of a history, into b, which keeps that of the history with them, and each was
-  -- answered as the calls before it have it; both are opened alike, over one memory
+  -- b, the account after these calls, keeps the law of the history with them; each was answered as the calls before it
+  -- have it; and b is opened as a was, over the same memory
   pub record Served (a b : Account T) (h cs : List Call) (rs : List (Option Answer)) : Type 0 where
     pub law : Keeps mean (onto h cs) b
     pub answers : AllAnswered (mean a.tariff) (opening_of a) h cs rs
     pub same : Same mean a b
 
-  -- so they did, whatever history a keeps the law of
+  -- so it is for every history that a keeps the law of
   abbrev pub Follows : (a b : Account T) (cs : List Call) → List (Option Answer) → Type 0
   Follows a b cs rs = (h : List Call) → Keeps mean h a → Served a b h cs rs
 

@@ -5,7 +5,7 @@ use method::later_three::LaterThree;
 use method::previous_three::PreviousThree;
 use method::test_meter::TestMeter;
 
-/// No `Method` itself, since the uses that a method names are once and for all those of its type.
+/// It is no `Method` itself: a method's type names its uses once and for all, and the five name different ones.
 #[derive(Clone, Copy)]
 pub enum AnyMethod {
     Category(Category),

@@ -2,8 +2,8 @@
 use figures::reported::{Cents, Reading};
 use method::finding::Finding;
 
-/// An estimate and a correction each bring a method that is made already, where a line has only the figures that it
-/// is made of: so this is no twin of `events::event::Event`.
+/// An estimate and a correction each bring a method that is made already; the event of a line (`events::event::Event`)
+/// has only the figures that one is made of.
 #[derive(Clone, Copy)]
 pub enum Ask<M> {
     Take {

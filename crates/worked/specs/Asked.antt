@@ -32,7 +32,7 @@ abbrev pub tens : (n k : ℕ) → List Period
 tens zero k = []
 tens (suc n) k = metered (10 * k) (10 * k + 9) (units 100 0 0) ∷ tens n (suc k)
 
--- and unmetered: those up to row 6 are estimated
+-- and unmetered: row 7 without energy, every other estimated
 abbrev pub unread : (n k : ℕ) → List Period
 unread zero k = []
 unread (suc n) k = blank (10 * k) (10 * k + 9) (cond (k == 7) no_energy estimated) ∷ unread n (suc k)

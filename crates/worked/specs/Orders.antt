@@ -27,7 +27,7 @@ abbrev pub altered_by : (hold notice first last : ℕ) → ℕ
 altered_by hold notice first last =
     asked_in (room 9 3) 3 three (correct hold (found under consumer notice false first last)) (contract_made 1000 100 100 100 0)
 
--- by a test meter that showed so much more
+-- the same finding, of row 0, by a test meter: the meter showed one figure, the test meter the other
 abbrev pub tested_by : (journal shown tested : ℕ) → ℕ
 tested_by journal shown tested =
     asked_in (room 9 journal) 3 three (correct 1 (found under consumer 0 false 0 0)) (test_made shown tested)

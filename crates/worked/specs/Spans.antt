@@ -24,7 +24,8 @@ spans fs = map (span (tens 17 0)) fs
 abbrev pub between : List Period
 between = tens 1 0 ++ unread 7 1 ++ tens 3 8
 
--- two rows, read at so many day units and so many peak units, where the meter showed 3 and the test meter 4
+-- two rows, the first read at so many day units and the second at so many peak units, where the meter showed 3
+-- and the test meter 4
 abbrev pub shared : (day peak : ℕ) → ℕ
 shared day peak =
     asked_by (metered 0 9 (units day 0 0) ∷ metered 10 19 (units 0 peak 0) ∷ [])
@@ -77,7 +78,7 @@ table =
     -- 9: no share over 1,000,000, of day or of peak units, in any row; here 3 units become 4
     ∷ (map (shared 750000) (750000 ∷ 750001 ∷ []), 0 ∷ 9 ∷ [])
     ∷ (shared 750001 0 ∷ [], 9 ∷ [])
-    -- nor of an estimate, but from the seventh on: here 60 days at 1,000,000 for 30
+    -- nor of an estimate, but from the seventh on: here 60 days, and then 50, at 1,000,000 for 30
     ∷ (map (λ n. asked_by (unread n 1) (estimate 1 119) (category_made 1000000 0 5)) (5 ∷ 6 ∷ []), 9 ∷ 0 ∷ []) ∷ []
 
 abbrev pub WorkedSpans : Type 0

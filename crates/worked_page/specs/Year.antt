@@ -1,7 +1,7 @@
 -- More than a year under the changeover on day 365: from 1,140 cents a unit and 3,000 a row to 1,130 a unit,
--- 50,000 a kVA and 80,000 a row. A bill, seven periods without a reading, and readings again; those seven are
--- corrected by the three rows after them. The clerk hands back and takes again, corrects two rows of a meter
--- that was altered, takes a payment, and estimates anew.
+-- 50,000 a kVA and 80,000 a row. A bill, seven periods without a reading, and readings again; the absence is
+-- corrected by the three rows after it, which rewrites the six estimated ones. The clerk hands back and takes again,
+-- corrects two rows of a meter that was altered, takes a payment, and estimates anew.
 --
 -- Estimates at 270 units for 30 days, of which 20 per cent are peak units: 61 days have 61 × 270 × 80 ÷ 3,000 =
 -- 439.2 day units and 109.8 peak units, so 439 and 109. The seventh period of the run has no energy: its method,
@@ -9,7 +9,8 @@
 --
 -- The absence: rows 8 to 10 recorded 340 + 350 + 320 = 1,010 day units and 75 + 85 + 75 = 235 peak units in
 -- 31 + 30 + 31 = 92 days; their demand is (7 + 7 + 8) ÷ 3, rounded up 8 kVA. The six estimated rows have 61, 61,
--- 61, 61, 62 and 59 days. With those before it each comes to its days × 1,010 ÷ 92 and × 235 ÷ 92:
+-- 61, 61, 62 and 59 days. Each with those before it comes to their days × 1,010 ÷ 92 and × 235 ÷ 92, here cut
+-- after one place:
 --   days    61      122      183      244      306      365
 --   day    669.6  1,339.3  2,009.0  2,678.6  3,359.3  4,007.0   shares 669, 670, 670, 669, 681, 648
 --   peak   155.8    311.6    467.4    623.2    781.6    932.3   shares 155, 156, 156, 156, 158, 151

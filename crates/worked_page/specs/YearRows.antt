@@ -1,4 +1,4 @@
--- The rows behind that text: first and last day, sort, recorded and standing registers, cents.
+-- The rows behind the text of Year: first and last day, sort, recorded and standing registers, cents.
 -- Each is charged by what stands, at its last day: row 5, which begins before day 365 and ends after it,
 -- (681 + 158) × 1,130 + 8 × 50,000 + 80,000.
 use Rattle.std.specs.Prelude.{List, [], ◌∷◌}

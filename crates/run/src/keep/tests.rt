@@ -65,7 +65,7 @@ fn assert_answers<M>(rt: &impl Abort, requests: &[Request<M>], answers: &[Result
     }
 }
 
-/// A row is billed without a reading, found absent, and corrected by the rows after it; a meter that ran slow is
+/// A row is billed without a reading, and corrected by the rows after it; a meter that ran slow is
 /// tested, and three rows of an altered one are worked out from the contract demand.
 #[test]
 fn methods_of_four_types(rt: HostRuntime) {
