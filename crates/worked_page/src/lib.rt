@@ -1,4 +1,4 @@
-// Worked pages: what the definitions give for texts that were worked out by hand.
+// Worked pages: what the definitions give for texts that were worked out apart from them.
 #![tactic(auto)]
 
 ghost use Rattle.worked_page.specs.Session.{WorkedPage, WorkedRows};
