@@ -1,5 +1,5 @@
 -- Of a run, only the first six rows can be estimated: so a correction for an absent reading may stop after them. Assumes nothing.
-use Rattle.std.proofs.Common.{◌≡◌, ℕ, suc, ◌+◌, ◌≤◌, Bool, true, false, cond, ◌&&◌, leb, List, [], ◌∷◌, refl, ap, ap₂, ◌∙◌, sym, arith}
+use Rattle.std.proofs.Common.{◌≡◌, ℕ, suc, ◌+◌, ◌≤◌, true, false, cond, ◌&&◌, leb, List, [], ◌∷◌, refl, ap, ap₂, ◌∙◌, sym, arith}
 use Rattle.std.specs.Prelude.{⊤}
 use Rattle.std.proofs.lemmas.Bool.{cond-true, cond-false, leb-true, leb-false, le-leb, and_parts, and_from, and_left, and_right, false_from_ne_true}
 use Rattle.rules.specs.Subject.{Period, unmetered, absent, Finding, Method, day_weight, peak_weight}

@@ -1,8 +1,7 @@
 use Rattle.std.proofs.Common.{rules, tests, ◌≡◌, ◌+◌, ◌≤◌, arith}
 use Rattle.std.proofs.lemmas.Bool.{and_parts}
 use Rattle.rules.specs.Subject.{absent}
-use Rattle.rules.specs.Laid.{rewritten}
-use Rattle.method.specs.Uses.{finding_of, cause_of}
+use Rattle.method.specs.Uses.{finding_of}
 use Rattle.account.specs.Rows.{periods}
 use Rattle.account.proofs.Narrowed.{Alike, first_six, all_alike, rewritten_alike, fit_alike}
 use Rattle.account.proofs.sheet.found.Found.narrowed.Goals as goal
