@@ -1,21 +1,13 @@
 // Whether the span of a finding is right: whether it is billed, the sorts of its rows, and the rule of its cause.
 ghost use Rattle.std.specs.Prelude.{◌≡◌, ◌+◌, ◌-◌, ◌&&◌, Bool, nat_lt};
 ghost use Rattle.rules.specs.Subject.{Period, is_read, unmetered};
-ghost use Rattle.rules.specs.Questions.{of_sort, row_is, has_day, span_right as span_right_of, sorts_right as sorts_right_of, every, is_billed, sort_fits, not_left_out};
+ghost use Rattle.rules.specs.Questions.{row_is, has_day, span_right as span_right_of, sorts_right as sorts_right_of, every, is_billed, sort_fits, not_left_out};
 ghost use Rattle.figures.specs.View.{sort_of};
 ghost use Rattle.method.specs.Uses.{finding_of, cause_of, side_of};
 ghost use Rattle.account.specs.Rows.{periods};
 
 use crate::sheet::found::Found;
-use figures::row::{Row, Sort};
 use method::finding::{Cause, Finding, Side};
-
-/// Whether rows of this sort are covered by the cause.
-fn of_sort(c: Cause, s: Sort) -> bool
-    ensures { result ≡ of_sort (cause_of c) (sort_of s) }
-{
-    (c == Cause::Absent) != (s == Sort::Read)
-}
 
 impl<'a> Found<'a> {
     /// Whether the span is in order and its last row is there.
@@ -26,11 +18,15 @@ impl<'a> Found<'a> {
         span.first <= span.last && span.last < self.rows.len() as u64
     }
 
+    /// Whether the rows are of the cause's sort. The cause is asked once, since a run may be long.
     fn all_of_sort(&self) -> bool
         ensures { result ≡ every (sort_fits (finding_of self.now.finding)) 0 (periods self.now.rows.now) }
     {
-        let cause = self.finding.cause;
-        self.covered().iter().all(|row| of_sort(cause, row.sort))
+        let rows = self.covered();
+        if self.finding.cause == Cause::Absent {
+            return rows.iter().all(|row| !row.is_read());
+        }
+        rows.iter().all(|row| row.is_read())
     }
 
     fn unmetered_before(&self) -> bool
