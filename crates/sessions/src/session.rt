@@ -8,7 +8,7 @@ pub(crate) struct Session {
 }
 
 /// Every stored session.
-pub(crate) const SESSIONS: [Session; 23] = [
+pub(crate) const SESSIONS: [Session; 25] = [
     Session {
         name: "run-of-eight",
         tariff: 2,
@@ -57,6 +57,16 @@ pub(crate) const SESSIONS: [Session; 23] = [
     Session {
         name: "altered-not-ascertained",
         tariff: 2,
+        opening: 0,
+    },
+    Session {
+        name: "absent-later-three",
+        tariff: 2,
+        opening: 9_132,
+    },
+    Session {
+        name: "every-event",
+        tariff: 1,
         opening: 0,
     },
     Session {
