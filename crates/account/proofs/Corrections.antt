@@ -4,7 +4,7 @@ use Rattle.std.proofs.lemmas.Bool.{and_parts, leb-true, ltb-true}
 use Rattle.rules.specs.Subject.{Tariff, Opening, Finding, Method, correct}
 use Rattle.rules.specs.Laid.{rewritten, corrected}
 use Rattle.account.specs.Few.{six_at_most}
-use Rattle.rules.specs.Questions.{question, asked, all_fit, bills}
+use Rattle.rules.specs.Questions.{question, asked, every, sort_fits, all_fit, bills}
 use Rattle.rules.specs.Shown as show
 use Rattle.rules.specs.Journal.{cents_of}
 use Rattle.rules.specs.Machine.{period_of, periods_of, view, relaid, posts, effect}
@@ -24,6 +24,7 @@ use Rattle.account.proofs.Calls.{room_said, periods_length, made}
 pub record Correctable {T : Type 0} (a : Account T) (f : Finding) (m : Method) : Type 0 where
   pub ordered : f.first ≤ f.last
   pub billed : f.last < a.sheet.filled
+  pub sorts : every (sort_fits f) 0 (periods_of (state_of a)) ≡ true
   pub fits : all_fit (rewritten f 0 (corrected f m 0 0 0 (periods_of (state_of a)))) ≡ true
   pub few : length (rewritten f 0 (periods_of (state_of a))) ≤ 12
   pub bills : bills f ≤ 12
@@ -37,6 +38,7 @@ correct_yes a hold f m e =
     record {
       ordered = leb-true _ _ five.0;
       billed = omega (arith, ltb-true _ _ five.1, periods_length a);
+      sorts = (and_parts _ _ y.1.1.1.0).0;
       fits = y.1.1.1.1.1.1.0;
       few = rows_few f (periods_of (state_of a)) y.1.1.1.0 y.1.1.1.1.0 a.runs;
       bills = bills_limit f.cause f.side f (periods_of (state_of a)) y.1.1.1.1.0;

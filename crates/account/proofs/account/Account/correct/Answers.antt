@@ -22,7 +22,7 @@ relay_sheet-u-requires g c =
     let y = correct_yes a c.args.hold (finding_of c.args.f) (g.M.Method.meaning c.args.m.now) c.in_ok-hold.ensures.0 in
     let s = a.sheet.within_limit in
     let l = a.sheet_limit in
-    record { few = omega arith; fits = y.fits; room = y.room }
+    record { few = omega arith; sorts = y.sorts; fits = y.fits; room = y.room }
 
 pub overflow_cast-lines : goal.overflow_cast-lines
 overflow_cast-lines g c =
