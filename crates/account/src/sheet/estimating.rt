@@ -9,7 +9,10 @@ ghost use Rattle.account.specs.Rows.{periods};
 use crate::sheet::laying::alone;
 use crate::sheet::relaying::restate;
 use figures::dates::Term;
-use figures::row::{BLANK, Row, Sort};
+use figures::money::Charge;
+use figures::reported::Cents;
+use figures::row::{Row, Sort};
+use figures::units::ZEROS;
 use method::method::Method;
 use tariff::tariff::{Tariff, charged};
 
@@ -27,7 +30,9 @@ pub(crate) fn blank(term: Term, sort: Sort) -> Row
     Row {
         term,
         sort,
-        ..BLANK
+        recorded: ZEROS,
+        standing: ZEROS,
+        charge: Charge { figure: Cents(0) },
     }
 }
 
@@ -51,9 +56,9 @@ pub(crate) fn without_reading<T: Tariff, M: Method>(
     ensures same { T.Tariff.meaning tariff.new ≡ T.Tariff.meaning tariff.old }
 {
     if late {
-        let row = blank(term, Sort::NoEnergy);
-        let charge = charged(tariff, term.last, row.standing);
-        return Row { charge, ..row };
+        let mut row = blank(term, Sort::NoEnergy);
+        row.charge = charged(tariff, term.last, row.standing);
+        return row;
     }
     let row = blank(term, Sort::Estimated);
     restate(tariff, m, alone(m, &row), &row)

@@ -22,7 +22,7 @@ relay_sheet-u-requires g c =
     let y = correct_yes a c.args.hold (finding_of c.args.f) (g.M.Method.meaning c.args.m.now) c.in_ok-hold.ensures.0 in
     let s = a.sheet.within_limit in
     let l = a.sheet_limit in
-    record { few = omega arith; fits = y.fits; room = y.room }
+    record { few = omega arith; sorts = y.sorts; fits = y.fits; room = y.room }
 
 pub overflow_cast-lines : goal.overflow_cast-lines
 overflow_cast-lines g c =
@@ -33,8 +33,8 @@ overflow_cast-lines g c =
     let d = added a _ (g.T.Tariff.meaning a.tariff) c.in_ok-hold.hold f m y c.relay_sheet-u.ensures.lines in
     omega (arith, d.within, d.most)
 
-pub bills-requires : goal.bills-requires
-bills-requires g c =
+pub bills_for-requires : goal.bills_for-requires
+bills_for-requires g c =
     let a = c.args.self.now in
     let y = correct_yes a c.args.hold (finding_of c.args.f) (g.M.Method.meaning c.args.m.now) c.in_ok-hold.ensures.0 in
     let s = a.sheet.within_limit in
@@ -92,5 +92,5 @@ returns g c =
       journal = e.lines;
       sums = c.correct.ensures;
       memory = record { sheet = e.lent.0; journal = e.lent.1 };
-    }) (correct c.args.hold f m) c.relay_sheet-u.result.0 c.in_ok-hold.ensures.0 (e.sum ∙ ap (λ z. cents_of (posts t f m z 0 0 0 (state_of a).rows)) c.in_ok-hold.ensures.1) (corrected_is t (opening_of a) a c.in_ok-hold.hold c.args.hold f m c.relay_sheet-u.result.0 c.bills.result.count (c.relay_sheet-u.new.journal.filled - a.journal.filled) c.in_ok-hold.ensures.1 e.sum c.bills.ensures) in
+    }) (correct c.args.hold f m) c.relay_sheet-u.result.0 c.in_ok-hold.ensures.0 (e.sum ∙ ap (λ z. cents_of (posts t f m z 0 0 0 (state_of a).rows)) c.in_ok-hold.ensures.1) (corrected_is t (opening_of a) a c.in_ok-hold.hold c.args.hold f m c.relay_sheet-u.result.0 c.bills_for.result.count (c.relay_sheet-u.new.journal.filled - a.journal.filled) c.in_ok-hold.ensures.1 e.sum c.bills_for.ensures) in
     record { after = r.0; law = r.1 }

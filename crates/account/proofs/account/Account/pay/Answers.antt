@@ -11,7 +11,7 @@ paying hold cents = record { hold = hold; letter = show.P; row = None; cents = c
 
 pub returns-in_err-hold : goal.returns-in_err-hold
 returns-in_err-hold g c =
-    let r = refused_by g.T.Tariff.meaning c.args.self.now (pay c.args.hold c.args.cents.0) (λ p. pos p.cents) c.from_residual.result c.in_err-hold.field-0.0 c.from_residual.ensures.1 c.in_err-hold.ensures in
+    let r = refused_by g.T.Tariff.meaning c.args.self.now (pay c.args.hold c.args.cents.0) (λ p. pos p.cents.0) c.from_residual.result c.in_err-hold.field-0.0 c.from_residual.ensures.1 c.in_err-hold.ensures in
     record { after = r.0; law = r.1 }
 
 pub pay-requires : goal.pay-requires
@@ -54,5 +54,5 @@ returns g c =
       journal = grown_by a _ _ _ said.1.2 seen (appended_by a _ _ said.1.2 c.append.ensures.after);
       sums = c.pay.ensures ∙ ap (paid_by (totals a.sums)) said.1.1;
       memory = record { sheet = refl; journal = c.append.ensures.lent };
-    }) (pay hold cents) (pos p.payment.cents) said.0 (ap pos said.1.1) refl in
+    }) (pay hold cents) (pos p.payment.cents.0) said.0 (ap pos said.1.1) refl in
     record { after = r.0; law = r.1 }

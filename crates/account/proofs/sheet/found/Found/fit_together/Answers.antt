@@ -91,8 +91,8 @@ returns g c h =
     let all = c.args.self.now.rows.now in
     let from = span_start f (length all) in
     let both = and_parts _ _ (sym c.fit.ensures ∙ h) in
-    let day = leb-true c.wholes.result.day 1000000 both.0 in
-    let peak = leb-true c.wholes.result.peak 1000000 both.1 in
+    let day = leb-true c.wholes.result.day.0 1000000 both.0 in
+    let peak = leb-true c.wholes.result.peak.0 1000000 both.1 in
     ap all_fit (asked_covered f all m)
     ∙ sym (ap (λ xs. all_fit (rewritten f from (corrected f m from 0 0 (periods xs)))) c.covered-rows.ensures)
     ∙ sym (c.loop-row.invariant.fitting (omega (arith, c.wholes.ensures.day)) (omega (arith, c.wholes.ensures.peak)))
