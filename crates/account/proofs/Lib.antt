@@ -2,3 +2,4 @@ pub mod Spans
 pub mod Calls
 pub mod Rows
 pub mod Corrections
+pub mod Lines

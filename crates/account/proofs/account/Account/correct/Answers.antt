@@ -9,6 +9,7 @@ use Rattle.account.specs.Sums.{Totals}
 use Rattle.account.specs.State.{state_of, opening_of}
 use Rattle.account.proofs.Calls.{refused_by, changed_done, grown_limit}
 use Rattle.account.proofs.Corrections.{correct_yes, corrected_is, added, runs_relaid}
+use Rattle.account.proofs.Lines.{moved_more}
 use Rattle.account.proofs.account.Account.correct.Goals as goal
 
 pub returns-in_err-hold : goal.returns-in_err-hold
@@ -70,6 +71,7 @@ invariant_of-self g c =
       sheet_limit = r.limit ∙ a.sheet_limit ∙ ap (λ k. min k 120) (sym r.size);
       journal_limit = grown_limit a _ _ w;
       counted = omega (arith, lines, d.filled);
+      moved = moved_more a _ _ _ w (omega (arith, ints, ap (λ (t : Totals). t.balance) c.correct.ensures, c.relay_sheet-u.ensures.sum));
       runs = runs_relaid a _ (g.T.Tariff.meaning a.tariff) f m r.rows;
     }
 

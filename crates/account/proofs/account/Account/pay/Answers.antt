@@ -1,9 +1,11 @@
 use Rattle.std.proofs.Common.{◌≡◌, ℕ, ◌+◌, [], ◌∷◌, ℤ, pos, neg_ℤ, None, sym, refl, ap, ◌∙◌, ap₂, arith}
+use Rattle.std.proofs.lemmas.Int.{ints}
 use Rattle.rules.specs.Subject.{pay}
 use Rattle.rules.specs.Shown as show
 use Rattle.rules.specs.Machine.{effect}
 use Rattle.account.specs.Sums.{Totals, totals, paid_by}
 use Rattle.account.proofs.Calls.{refused_by, appended_by, grown_by, grown_limit, changed_done}
+use Rattle.account.proofs.Lines.{moved_more}
 use Rattle.account.proofs.account.Account.pay.Goals as goal
 
 abbrev paying : ℕ → ℤ → show.Line
@@ -31,6 +33,7 @@ invariant_of-self g c =
       sheet_limit = a.sheet_limit;
       journal_limit = grown_limit a _ _ w;
       counted = lines ∙ ap (λ n. n + 1) a.counted ∙ sym w.filled;
+      moved = moved_more a _ _ _ w (omega (arith, ints, ap (λ (t : Totals). t.balance) c.pay.ensures, c.negated.ensures));
       runs = a.runs;
     }
 
