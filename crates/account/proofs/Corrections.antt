@@ -14,7 +14,7 @@ use Rattle.rules.proofs.Dues.{bills_limit}
 use Rattle.book.specs.Pages.{Pages, pages_of}
 use Rattle.figures.specs.declared.line.Line.{Line}
 use Rattle.account.specs.Lines.{Grown}
-use Rattle.account.specs.Sums.{totals, corrected_by}
+use Rattle.account.specs.Sums.{amounts_of, corrected_by}
 use Rattle.account.specs.declared.account.Account.{Account}
 use Rattle.account.specs.State.{state_of, opening_of}
 use Rattle.rules.proofs.Holds.{all_yes}
@@ -48,11 +48,11 @@ correct_yes a hold f m e =
 -- what a correction does, in the words of the step
 pub corrected_is : {T : Type 0} (t : Tariff) (o : Opening) (a : Account T) (hold hold' : ℕ) (f : Finding) (m : Method) (u : ℤ) (n lines : ℕ) → hold ≡ hold' →
     u ≡ cents_of (posts t f m hold 0 0 0 (state_of a).rows) → n ≡ bills f →
-    made a (relaid t f m 0 0 0 (state_of a).rows) (posts t f m hold 0 0 0 (state_of a).rows) (corrected_by (totals a.sums) u n lines) ≡ effect t o (state_of a) (correct hold' f m)
+    made a (relaid t f m 0 0 0 (state_of a).rows) (posts t f m hold 0 0 0 (state_of a).rows) (corrected_by (amounts_of a.sums) u n lines) ≡ effect t o (state_of a) (correct hold' f m)
 unfolding effect
 corrected_is t o a hold hold' f m u n lines h e k =
-    ap₂ (λ x y. made a (relaid t f m 0 0 0 (state_of a).rows) (posts t f m hold 0 0 0 (state_of a).rows) (corrected_by (totals a.sums) x y lines)) e k
-    ∙ ap (λ z. made a (relaid t f m 0 0 0 (state_of a).rows) (posts t f m z 0 0 0 (state_of a).rows) (corrected_by (totals a.sums) (cents_of (posts t f m z 0 0 0 (state_of a).rows)) (bills f) lines)) h
+    ap₂ (λ x y. made a (relaid t f m 0 0 0 (state_of a).rows) (posts t f m hold 0 0 0 (state_of a).rows) (corrected_by (amounts_of a.sums) x y lines)) e k
+    ∙ ap (λ z. made a (relaid t f m 0 0 0 (state_of a).rows) (posts t f m z 0 0 0 (state_of a).rows) (corrected_by (amounts_of a.sums) (cents_of (posts t f m z 0 0 0 (state_of a).rows)) (bills f) lines)) h
 
 -- its runs have still six estimated rows at most
 pub runs_relaid : {T : Type 0} (a : Account T) (new : List show.Row) (t : Tariff) (f : Finding) (m : Method) → new ≡ relaid t f m 0 0 0 (state_of a).rows → six_at_most 0 (map period_of new) ≡ true

@@ -19,9 +19,10 @@ pub struct Hold {
     pub until: u64,
 }
 
-/// The sums hold what the journal's lines moved: the balance is the sum of their cents, and each is small while the journal is. At most six rows of an unmetered run are
-/// estimated, so a correction for the cause absent rewrites no more; any other has at most twelve by its span. Each of the calls
-/// takes by name what a clerk's call carries: a struct of hold, finding or method would be made for one call and taken apart in it.
+/// The sums hold what the journal's lines moved: the balance is the sum of their cents, and each sum is small while the journal
+/// is. At most six rows of an unmetered run are estimated, so a correction for the cause absent rewrites no more; any other has
+/// at most twelve by its span. Each of the calls takes by name what a clerk's call carries: a struct of hold, finding or method
+/// would be made for one call and taken apart in it.
 #[derive(Drop)]
 pub struct Account<'a, T> {
     pub(crate) tariff: T,

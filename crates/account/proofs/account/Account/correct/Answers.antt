@@ -5,7 +5,7 @@ use Rattle.rules.specs.Journal.{cents_of}
 use Rattle.rules.specs.Machine.{posts}
 use Rattle.rules.proofs.Runs.{length-posts}
 use Rattle.method.specs.Uses.{finding_of}
-use Rattle.account.specs.Sums.{Totals}
+use Rattle.account.specs.Sums.{Amounts}
 use Rattle.account.specs.State.{state_of, opening_of}
 use Rattle.account.proofs.Calls.{refused_by, changed_done, grown_limit}
 use Rattle.account.proofs.Corrections.{correct_yes, corrected_is, added, runs_relaid}
@@ -65,13 +65,13 @@ invariant_of-self g c =
     let w = c.relay_sheet-u.ensures.lines in
     let r = c.relay_sheet-u.ensures.rows in
     let d = added a _ (g.T.Tariff.meaning a.tariff) c.in_ok-hold.hold f m y w in
-    let lines = ap (λ (t : Totals). t.lines) c.correct.ensures in
+    let lines = ap (λ (t : Amounts). t.lines) c.correct.ensures in
     let n = a.counted in
     record {
       sheet_limit = r.limit ∙ a.sheet_limit ∙ ap (λ k. min k 120) (sym r.size);
       journal_limit = grown_limit a _ _ w;
       counted = omega (arith, lines, d.filled);
-      moved = moved_more a _ _ _ w (omega (arith, ints, ap (λ (t : Totals). t.balance) c.correct.ensures, c.relay_sheet-u.ensures.sum));
+      moved = moved_more a _ _ _ w (omega (arith, ints, ap (λ (t : Amounts). t.balance) c.correct.ensures, c.relay_sheet-u.ensures.sum));
       runs = runs_relaid a _ (g.T.Tariff.meaning a.tariff) f m r.rows;
     }
 

@@ -3,7 +3,7 @@ use Rattle.std.proofs.lemmas.Int.{ints}
 use Rattle.rules.specs.Subject.{pay}
 use Rattle.rules.specs.Shown as show
 use Rattle.rules.specs.Machine.{effect}
-use Rattle.account.specs.Sums.{Totals, totals, paid_by}
+use Rattle.account.specs.Sums.{Amounts, amounts_of, paid_by}
 use Rattle.account.proofs.Calls.{refused_by, appended_by, grown_by, grown_limit, changed_done}
 use Rattle.account.proofs.Lines.{moved_more}
 use Rattle.account.proofs.account.Account.pay.Goals as goal
@@ -28,12 +28,12 @@ invariant_of-self g c =
     let a = c.args.self.now in
     let room = c.in_ok-hold.ensures.1.2 in
     let w = grown_by a _ _ _ room refl (appended_by a _ _ room c.append.ensures.after) in
-    let lines = ap (λ (t : Totals). t.lines) c.pay.ensures in
+    let lines = ap (λ (t : Amounts). t.lines) c.pay.ensures in
     record {
       sheet_limit = a.sheet_limit;
       journal_limit = grown_limit a _ _ w;
       counted = lines ∙ ap (λ n. n + 1) a.counted ∙ sym w.filled;
-      moved = moved_more a _ _ _ w (omega (arith, ints, ap (λ (t : Totals). t.balance) c.pay.ensures, c.negated.ensures));
+      moved = moved_more a _ _ _ w (omega (arith, ints, ap (λ (t : Amounts). t.balance) c.pay.ensures, c.negated.ensures));
       runs = a.runs;
     }
 
@@ -46,7 +46,7 @@ returns g c =
     let hold = c.args.hold in
     let cents = c.args.cents.0 in
     let seen : paying p.hold c.negated.result.0 ≡ paying hold (neg_ℤ (pos cents)) = ap₂ paying said.1.0 (c.negated.ensures ∙ ap (λ n. neg_ℤ (pos n)) said.1.1) in
-    let r = changed_done g.T.Tariff.meaning a _ _ (paying hold (neg_ℤ (pos cents)) ∷ []) (paid_by (totals a.sums) cents) (record {
+    let r = changed_done g.T.Tariff.meaning a _ _ (paying hold (neg_ℤ (pos cents)) ∷ []) (paid_by (amounts_of a.sums) cents) (record {
       granted = refl;
       holding = refl;
       day = refl;
@@ -55,7 +55,7 @@ returns g c =
       sheet_size = refl;
       sheet_past = refl;
       journal = grown_by a _ _ _ said.1.2 seen (appended_by a _ _ said.1.2 c.append.ensures.after);
-      sums = c.pay.ensures ∙ ap (paid_by (totals a.sums)) said.1.1;
+      sums = c.pay.ensures ∙ ap (paid_by (amounts_of a.sums)) said.1.1;
       memory = record { sheet = refl; journal = c.append.ensures.lent };
     }) (pay hold cents) (pos p.payment.cents.0) said.0 (ap pos said.1.1) refl in
     record { after = r.0; law = r.1 }
