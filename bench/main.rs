@@ -36,16 +36,16 @@ mod archive {
     }
 }
 
-type Statement = fn(u32, u32, &[u8], &mut [u8]) -> Answer;
+type Statement = fn(u64, u64, &[u8], &mut [u8]) -> Answer;
 
 // Neither is inlined here, so that both are calls.
 #[inline(never)]
-fn proved(tariff: u32, opening: u32, text: &[u8], page: &mut [u8]) -> Answer {
+fn proved(tariff: u64, opening: u64, text: &[u8], page: &mut [u8]) -> Answer {
     // SAFETY: the archive reads `text` and writes `page`, each for its length.
     let answer = unsafe {
         archive::statement(
-            tariff,
-            opening,
+            tariff as u32,
+            opening as u32,
             text.as_ptr(),
             text.len(),
             page.as_mut_ptr(),
@@ -59,7 +59,7 @@ fn proved(tariff: u32, opening: u32, text: &[u8], page: &mut [u8]) -> Answer {
 }
 
 #[inline(never)]
-fn plainly(tariff: u32, opening: u32, text: &[u8], page: &mut [u8]) -> Answer {
+fn plainly(tariff: u64, opening: u64, text: &[u8], page: &mut [u8]) -> Answer {
     plain::statement(tariff, opening, text, page)
 }
 
@@ -88,7 +88,7 @@ impl Comparison {
     }
 
     /// Compares one call, on a page that is full of other bytes.
-    fn call(&mut self, tariff: u32, opening: u32, text: &[u8], bytes: usize) -> Answer {
+    fn call(&mut self, tariff: u64, opening: u64, text: &[u8], bytes: usize) -> Answer {
         let one = &mut self.one[..bytes];
         let two = &mut self.two[..bytes];
         one.fill(0xa5);
@@ -112,7 +112,7 @@ impl Comparison {
     }
 
     /// Compares a text on pages of several lengths: ample, exactly right, one byte less, none, and one within.
-    fn text(&mut self, dice: &mut Dice, tariff: u32, opening: u32, text: &[u8]) {
+    fn text(&mut self, dice: &mut Dice, tariff: u64, opening: u64, text: &[u8]) {
         let ample = (9 * text.len() + 70_000).min(WIDEST_PAGE);
         let answer = self.call(tariff, opening, text, ample);
         self.count(answer);
@@ -175,13 +175,13 @@ fn stored(folder: &str) -> Vec<Vec<u8>> {
         .collect()
 }
 
-fn opening(dice: &mut Dice) -> u32 {
+fn opening(dice: &mut Dice) -> u64 {
     match dice.below(10) {
         0 => 18_262,
         1 => 18_200,
         2 => 365,
-        3 => dice.below(18_263) as u32,
-        _ => dice.below(400) as u32,
+        3 => dice.below(18_263),
+        _ => dice.below(400),
     }
 }
 
@@ -191,7 +191,7 @@ fn compare(folder: &str) {
     let texts = stored(folder);
     for text in &texts {
         for tariff in 0..=5 {
-            for opening in [0, 300, 364, 18_262, 18_263, u32::MAX] {
+            for opening in [0, 300, 364, 18_262, 18_263, u32::MAX.into()] {
                 comparison.text(&mut dice, tariff, opening, text);
             }
         }
@@ -199,11 +199,11 @@ fn compare(folder: &str) {
             let mut damaged = text.clone();
             let places = dice.between(1, 6);
             texts::damage(&mut dice, &mut damaged, places);
-            let tariff = dice.between(1, 4) as u32;
+            let tariff = dice.between(1, 4);
             comparison.text(&mut dice, tariff, 0, &damaged);
         }
     }
-    for tariff in [0, 1, 2, 3, 4, 5, u32::MAX] {
+    for tariff in [0, 1, 2, 3, 4, 5, u32::MAX.into()] {
         for bytes in [0, 1, LONGEST - 1, LONGEST, LONGEST + 1, LONGEST + 1_000] {
             for byte in [b'\n', b'T', 0, 255] {
                 comparison.text(&mut dice, tariff, 0, &vec![byte; bytes]);
@@ -211,13 +211,13 @@ fn compare(folder: &str) {
         }
     }
     for round in 0..6_000 {
-        let (tariff, opening) = (dice.between(1, 4) as u32, opening(&mut dice));
+        let (tariff, opening) = (dice.between(1, 4), opening(&mut dice));
         let bytes = match round % 100 {
             0..=79 => dice.between(20, 1_500),
             80..=97 => dice.between(1_500, 8_000),
             _ => dice.between(8_000, 66_000),
         };
-        let mut text = texts::session(&mut dice, opening.into(), bytes as usize);
+        let mut text = texts::session(&mut dice, opening, bytes as usize);
         if dice.one_in(4) {
             text.pop();
         }
@@ -227,7 +227,7 @@ fn compare(folder: &str) {
         comparison.text(&mut dice, tariff, opening, &text);
     }
     for round in 0..3_000 {
-        let (tariff, opening) = (dice.between(0, 5) as u32, opening(&mut dice));
+        let (tariff, opening) = (dice.between(0, 5), opening(&mut dice));
         let lines = if round % 50 == 0 {
             1_200
         } else {
@@ -247,7 +247,7 @@ fn compare(folder: &str) {
 }
 
 /// The microseconds of one call, of so many in a row.
-fn timed(call: Statement, tariff: u32, text: &[u8], page: &mut [u8], calls: u32) -> f64 {
+fn timed(call: Statement, tariff: u64, text: &[u8], page: &mut [u8], calls: u32) -> f64 {
     let start = Instant::now();
     for _ in 0..calls {
         black_box(call(tariff, 0, black_box(text), black_box(page)));
@@ -255,7 +255,15 @@ fn timed(call: Statement, tariff: u32, text: &[u8], page: &mut [u8], calls: u32)
     start.elapsed().as_secs_f64() * 1e6 / f64::from(calls)
 }
 
-/// Times both in turn, on a page of exactly the right length, and takes the least time of each.
+/// A page for a kind: as long as its result, less what it misses. By neither of the two that a profile shows.
+fn page_of(kind: &Kind) -> Vec<u8> {
+    let mut page = vec![0; WIDEST_PAGE];
+    let answer = plain::statement(kind.tariff, 0, &kind.text, &mut page);
+    page.truncate(answer.value as usize - kind.missing);
+    page
+}
+
+/// Times both in turn, each kind on a page of its length, and takes the least time of each.
 fn time_all() {
     println!(
         "{:<44} {:>7} {:>6} {:>12} {:>12} {:>7}",
@@ -263,10 +271,11 @@ fn time_all() {
     );
     let mut logarithms = Vec::new();
     let mut totals = [0.0; 2];
-    for Kind { name, tariff, text } in texts::kinds(&mut Dice(SEED)) {
-        let mut page = vec![0; WIDEST_PAGE];
-        let right = plainly(tariff, 0, &text, &mut page).value as usize;
-        let page = &mut page[..right];
+    for kind in texts::kinds(&mut Dice(SEED)) {
+        let page = &mut page_of(&kind);
+        let Kind {
+            name, tariff, text, ..
+        } = kind;
         let once = timed(plainly, tariff, &text, page, 3);
         let calls = (200.0 / once).ceil() as u32;
         let mut least = [f64::MAX; 2];
@@ -307,18 +316,11 @@ fn only(side: &str, kind: &str, calls: &str) {
         _ => panic!("{side} is neither proved nor plain"),
     };
     let kinds = texts::kinds(&mut Dice(SEED));
-    let Kind { name, tariff, text } = &kinds[kind.parse::<usize>().unwrap()];
-    let mut page = vec![0; WIDEST_PAGE];
-    // Not by `plainly`, so that a profile of that has the calls asked for alone.
-    let right = plain::statement(*tariff, 0, text, &mut page).value as usize;
-    timed(
-        call,
-        *tariff,
-        text,
-        &mut page[..right],
-        calls.parse().unwrap(),
-    );
-    println!("{side}: {name}");
+    let kind = &kinds[kind.parse::<usize>().unwrap()];
+    let page = &mut page_of(kind);
+    let calls = calls.parse().unwrap();
+    timed(call, kind.tariff, &kind.text, page, calls);
+    println!("{side}: {}", kind.name);
 }
 
 fn main() {

@@ -436,11 +436,12 @@ pub fn damage(dice: &mut Dice, text: &mut Vec<u8>, places: u64) {
     }
 }
 
-/// A text that is timed.
+/// A text that is timed, on a page that has as many bytes as its result, or so many fewer.
 pub struct Kind {
     pub name: &'static str,
-    pub tariff: u32,
+    pub tariff: u64,
     pub text: Vec<u8>,
+    pub missing: usize,
 }
 
 /// The lines, again and again in order, to 65,536 bytes at most, after others that come once.
@@ -471,6 +472,48 @@ fn bills(many: u64) -> String {
     }
     text
 }
+
+/// A run of this many estimates.
+fn estimates(many: u64) -> String {
+    let mut text = String::from("T,100,86400\n");
+    for row in 0..many {
+        writeln!(text, "E,1,{},300,25,3", 30 * row + 29).unwrap();
+    }
+    text
+}
+
+/// The lines, again and again from the first on, after others that come once.
+fn repeated(once: &str, lines: &[&str]) -> Vec<u8> {
+    filled(once, lines.iter().cycle().map(|line| line.to_string()))
+}
+
+/// After twelve bills of 480 to 557 day units: a line for each question that a making of a method asks.
+const REFUSED_BY_METHODS: [&str; 8] = [
+    "C,1,O,s,0,y,2,5,M,1000001,900,0,0,0",
+    "C,1,O,s,0,y,2,5,M,1000,0,0,0,0",
+    "C,1,O,s,0,y,2,5,M,0,900,0,0,0",
+    "C,1,O,s,0,y,2,5,M,920,900,0,0,0",
+    "C,1,S,s,0,y,3,5,P,10,0,0,0,0",
+    "C,1,S,s,0,y,3,5,L,12,0,0,0,0",
+    "C,1,X,s,0,y,3,5,D,40,90,101,50,25",
+    "E,1,389,300,101,3",
+];
+
+/// After the same: a line for each question of the account, but for those that ask for room.
+const REFUSED_BY_THE_ACCOUNT: [&str; 12] = [
+    "P,2,100000",
+    "B,2,389,564,102,4",
+    "C,2,O,s,0,y,2,5,M,1000,900,0,0,0",
+    "P,1,0",
+    "B,1,389,564,102,10001",
+    "B,1,460,564,102,4",
+    "E,1,359,300,25,3",
+    "C,1,O,s,0,y,2,12,M,1000,900,0,0,0",
+    "C,1,A,s,0,n,2,5,L,6,0,0,0,0",
+    "C,1,O,s,0,n,2,5,M,1000,900,0,0,0",
+    "C,1,U,s,70,n,2,4,M,1000,900,0,0,0",
+    "C,1,U,s,70,n,2,4,M,1,1000000,0,0,0",
+];
 
 pub fn kinds(dice: &mut Dice) -> Vec<Kind> {
     let six =
@@ -531,9 +574,18 @@ pub fn kinds(dice: &mut Dice) -> Vec<Kind> {
         damaged.push(b'\n');
     }
     damaged.truncate(LONGEST);
-    let kind = |name, tariff, text| Kind { name, tariff, text };
+    let kind = |name, tariff, text| Kind {
+        name,
+        tariff,
+        text,
+        missing: 0,
+    };
     vec![
-        kind("six lines", 1, six),
+        kind("six lines", 1, six.clone()),
+        Kind {
+            missing: 1,
+            ..kind("six lines, a page too short", 1, six)
+        },
         kind("a year: 12 bills, 12 payments, a correction", 3, year),
         kind("empty lines", 1, vec![b'\n'; LONGEST]),
         kind("one line without end", 1, vec![b'7'; LONGEST]),
@@ -570,7 +622,33 @@ pub fn kinds(dice: &mut Dice) -> Vec<Kind> {
                 }),
             ),
         ),
+        kind(
+            "12 bills, corrections of one row",
+            3,
+            filled(
+                &bills(12),
+                (0..).map(|of| {
+                    let row = of % 12;
+                    match of % 3 {
+                        0 => format!("C,1,O,s,0,y,{row},{row},M,{},900,0,0,0", 950 + of % 60),
+                        1 => format!("C,1,X,s,0,y,{row},{row},D,40,90,85,50,25"),
+                        _ => format!("C,1,U,c,{},n,{row},{row},M,850,900,0,0,0", 30 * row + 9),
+                    }
+                }),
+            ),
+        ),
         kind("runs of seven, corrected for absence", 4, runs),
+        kind(
+            "a run of a hundred, corrected for absence",
+            4,
+            filled(
+                &format!(
+                    "{}B,1,3029,480,100,4\nB,1,3059,490,100,4\nB,1,3089,500,100,4\n",
+                    estimates(100)
+                ),
+                std::iter::repeat(String::from("C,1,A,s,0,n,0,99,L,100,0,0,0,0")),
+            ),
+        ),
         kind(
             "estimates past the sixth",
             2,
@@ -578,6 +656,24 @@ pub fn kinds(dice: &mut Dice) -> Vec<Kind> {
                 "T,100,86400\n",
                 (0..).map(|of| format!("E,1,{},300,25,3", 30 * (of % 120) + 29)),
             ),
+        ),
+        kind(
+            "a run of a hundred, estimates refused",
+            2,
+            filled(
+                &format!("{}{}", estimates(100), "P,1,100000\n".repeat(924)),
+                std::iter::repeat(String::from("E,1,3029,300,25,3")),
+            ),
+        ),
+        kind(
+            "12 bills, lines that methods refuse",
+            1,
+            repeated(&bills(12), &REFUSED_BY_METHODS),
+        ),
+        kind(
+            "12 bills, lines that the account refuses",
+            2,
+            repeated(&bills(12), &REFUSED_BY_THE_ACCOUNT),
         ),
         kind("long figures, refused", 1, {
             let long = "1234567890123";

@@ -3,3 +3,4 @@ pub mod Calls
 pub mod Rows
 pub mod Corrections
 pub mod Lines
+pub mod Narrowed

@@ -36,7 +36,7 @@ span_few f row (p ∷ ps) =
 
 module _ (f : Finding) (c : f.cause ≡ absent) where
   -- an estimated row has fewer than six unmetered ones before it
-  before_six : (n row : ℕ) (p : Period) → may_stand n p ≡ true → rewrites f row p ≡ true → n < 6
+  pub before_six : (n row : ℕ) (p : Period) → may_stand n p ≡ true → rewrites f row p ≡ true → n < 6
   before_six n row p h e = ltb-true n 6 (or_then (is_estimated p.sort) _ h (ap (λ k. rewrites_sort k p.sort) (sym c) ∙ (and_parts (in_span f row) _ e).1))
 
   -- in its span, where n unmetered rows stand before

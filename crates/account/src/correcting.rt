@@ -50,6 +50,7 @@ fn ask_rows<M: Method>(m: &M, found: &Found) -> Result<usize, Refusal>
     if !may_serve(m, Use::Correcting(cause), span) {
         return Err(Refusal::NoFit);
     }
+    let found = found.narrowed();
     if !found.shares_fit(m) {
         return Err(Refusal::ShareTooLarge);
     }

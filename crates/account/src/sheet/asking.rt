@@ -6,7 +6,7 @@ ghost use Rattle.method.specs.Uses.{finding_of};
 ghost use Rattle.account.specs.Rows.{periods};
 
 use crate::sheet::found::Found;
-use crate::sheet::laying::{NONE, rewrites_sort, weigh, wholes};
+use crate::sheet::laying::{NONE, rewrites_sort, weigh, wholes_fit};
 use method::method::Method;
 
 impl<'a> Found<'a> {
@@ -33,7 +33,7 @@ impl<'a> Found<'a> {
                 weights = weights.plus(weigh(m, row));
             }
         }
-        wholes(m, weights).fit()
+        wholes_fit(m, weights)
     }
 
     /// Whether each share of the rows that a correction rewrites keeps the limit.
@@ -53,8 +53,8 @@ impl<'a> Found<'a> {
         true
     }
 
-    /// Whether every share of the rows that a correction rewrites keeps the limit. The rows are asked together first: that divides
-    /// once for each register, and not once for each register of each row.
+    /// Whether every share of the rows that a correction rewrites keeps the limit. The rows are asked together first, since that
+    /// needs no division.
     pub(crate) fn shares_fit<M: Method>(&self, m: &M) -> bool
         ensures { result ≡ corrected_fit (finding_of self.now.finding) (M.Method.meaning m.now) (periods self.now.rows.now) }
     {

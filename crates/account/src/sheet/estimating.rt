@@ -1,5 +1,5 @@
 // Rows that are not read.
-ghost use Rattle.std.specs.Prelude.{◌≡◌, true, false};
+ghost use Rattle.std.specs.Prelude.{◌≡◌, min, true, false};
 ghost use Rattle.rules.specs.Laid.{laid, with_standing, run as run_of, blank as blank_of, unmetered_by};
 ghost use Rattle.rules.specs.Questions.{shares_fit};
 ghost use Rattle.rules.specs.Shown.{row_of};
@@ -16,11 +16,15 @@ use figures::units::ZEROS;
 use method::method::Method;
 use tariff::tariff::{Tariff, charged};
 
-/// How many unmetered rows stand at the end.
+/// How many unmetered rows stand at the end, counted up to six: a row with so many before it is late in its run.
 pub(crate) fn run(rows: &[Row]) -> usize
-    ensures { result ≡ run_of (periods rows.now) }
+    ensures { result ≡ min 6 (run_of (periods rows.now)) }
 {
-    rows.iter().rev().take_while(|row| !row.is_read()).count()
+    rows.iter()
+        .rev()
+        .take_while(|row| !row.is_read())
+        .take(6)
+        .count()
 }
 
 /// A row of zeros.

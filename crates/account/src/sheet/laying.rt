@@ -1,5 +1,5 @@
 // What a method lays down for one row.
-ghost use Rattle.std.specs.Prelude.{◌≡◌, ℕ, ◌+◌, ◌-◌, ◌*◌, ◌/◌, ◌^◌, ◌<◌, ◌≤◌};
+ghost use Rattle.std.specs.Prelude.{◌≡◌, ℕ, ◌+◌, ◌-◌, ◌*◌, ◌/◌, ◌^◌, ◌<◌, ◌≤◌, nat_le};
 ghost use Rattle.rules.specs.Subject.{days, day_units, peak_units, day_weight, peak_weight};
 ghost use Rattle.rules.specs.Sharing.{whole as whole_of, share as share_of};
 ghost use Rattle.rules.specs.Laid.{rewrites_sort};
@@ -65,6 +65,14 @@ fn whole(upper: u64, lower: u64, weight: u64) -> Kwh
     Kwh(weight * upper / lower)
 }
 
+/// Whether that keeps the limit of a share: asked by products, since a division costs more than both.
+fn whole_fits(upper: u64, lower: u64, weight: u64) -> bool
+    requires { (1 ≤ lower) × (lower ≤ 1000000000) × (weight * upper ≤ 1200000000000000000) }
+    ensures { result ≡ nat_le (whole_of upper lower weight) 1000000 }
+{
+    weight * upper < lower * 1_000_001
+}
+
 /// The weights of a row.
 pub(crate) fn weigh<M: Method>(m: &M, row: &Row) -> Weights
     ensures day { result.day ≡ day_weight (M.Method.meaning m.now) (period_seen row.now) }
@@ -89,6 +97,16 @@ pub(crate) fn wholes<M: Method>(m: &M, w: Weights) -> Energy
         day: whole(m.upper(Register::Day), lower, w.day),
         peak: whole(m.upper(Register::Peak), lower, w.peak),
     }
+}
+
+/// Whether the whole units that rows of these weights get together keep the limit of a share.
+pub(crate) fn wholes_fit<M: Method>(m: &M, w: Weights) -> bool
+    requires { Weighed (M.Method.meaning m.now) 120 w.day w.peak }
+    ensures { result ≡ pair_fits (whole_of ((M.Method.meaning m.now).upper day_units) (M.Method.meaning m.now).lower w.day) (whole_of ((M.Method.meaning m.now).upper peak_units) (M.Method.meaning m.now).lower w.peak) }
+{
+    let lower = m.lower();
+    whole_fits(m.upper(Register::Day), lower, w.day)
+        && whole_fits(m.upper(Register::Peak), lower, w.peak)
 }
 
 /// The rows that a method has shared over so far: what they weigh, and the whole units that they get together.

@@ -77,8 +77,8 @@ loop-row-preserved g c =
           }
     ]
 
-pub wholes-requires : goal.wholes-requires
-wholes-requires g c =
+pub wholes_fit-requires : goal.wholes_fit-requires
+wholes_fit-requires g c =
     let few = few_covered (finding_of c.args.self.now.finding) c.args.self.now.rows.now in
     let all = c.args.self.now.few in
     weighed_most (g.M.Method.meaning c.args.m.now) c.loop-row.row-index _ _ 120 (omega (arith, ap length c.covered-rows.ensures)) c.loop-row.invariant.weighed
@@ -90,10 +90,8 @@ returns g c h =
     let m = g.M.Method.meaning c.args.m.now in
     let all = c.args.self.now.rows.now in
     let from = span_start f (length all) in
-    let both = and_parts _ _ (sym c.fit.ensures ∙ h) in
-    let day = leb-true c.wholes.result.day.0 1000000 both.0 in
-    let peak = leb-true c.wholes.result.peak.0 1000000 both.1 in
+    let both = and_parts _ _ (sym c.wholes_fit.ensures ∙ h) in
     ap all_fit (asked_covered f all m)
     ∙ sym (ap (λ xs. all_fit (rewritten f from (corrected f m from 0 0 (periods xs)))) c.covered-rows.ensures)
-    ∙ sym (c.loop-row.invariant.fitting (omega (arith, c.wholes.ensures.day)) (omega (arith, c.wholes.ensures.peak)))
+    ∙ sym (c.loop-row.invariant.fitting (leb-true _ 1000000 both.0) (leb-true _ 1000000 both.1))
     ∙ fitting_all f from m c.covered-rows.result.now c.loop-row.row-index c.loop-row.weights.day c.loop-row.weights.peak c.loop-row-test.false
