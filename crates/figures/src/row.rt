@@ -1,4 +1,5 @@
-// One billed period: a row of the sheet. Each part keeps its own limits, so no row is outside them.
+// One billed period: a row of the sheet. Each part keeps its own limits, so no row is outside them, and a row has no
+// registers that its sort forbids.
 ghost use Rattle.std.specs.Prelude.{◌≡◌, true};
 ghost use Rattle.rules.specs.Subject.{zeros, no_energy, is_unmetered};
 ghost use Rattle.figures.specs.Parts.{regs, sort_of};
@@ -16,8 +17,8 @@ pub enum Sort {
     NoEnergy,
 }
 
-/// The recorded registers are what the meter showed, so an unmetered row has none; the standing ones are charged, and without
-/// energy none stand.
+/// The recorded registers are what the meter showed: zeros where it was not read. The standing ones are charged: zeros where
+/// the row is without energy.
 #[derive(Clone, Copy)]
 pub struct Row {
     pub term: Term,
