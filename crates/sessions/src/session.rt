@@ -3,8 +3,8 @@
 /// A stored session, with the tariff's number and the opening day of its account.
 pub(crate) struct Session {
     pub(crate) name: &'static str,
-    pub(crate) tariff: u32,
-    pub(crate) opening: u32,
+    pub(crate) tariff: u64,
+    pub(crate) opening: u64,
 }
 
 /// Every stored session.
