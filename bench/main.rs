@@ -26,8 +26,8 @@ mod archive {
     extern "C" {
         #[link_name = "maqdylez_statement"]
         pub fn statement(
-            tariff: u32,
-            opening: u32,
+            tariff: u64,
+            opening: u64,
             text: *const u8,
             text_bytes: usize,
             page: *mut u8,
@@ -44,8 +44,8 @@ fn proved(tariff: u64, opening: u64, text: &[u8], page: &mut [u8]) -> Answer {
     // SAFETY: the archive reads `text` and writes `page`, each for its length.
     let answer = unsafe {
         archive::statement(
-            tariff as u32,
-            opening as u32,
+            tariff,
+            opening,
             text.as_ptr(),
             text.len(),
             page.as_mut_ptr(),

@@ -24,7 +24,7 @@ static int left_well(size_t page_len, size_t written)
     return 1;
 }
 
-static void check(const char *what, uint32_t tariff, uint32_t opening, const uint8_t *text, size_t text_len, size_t page_len,
+static void check(const char *what, uint64_t tariff, uint64_t opening, const uint8_t *text, size_t text_len, size_t page_len,
                   uint32_t number, uint64_t value)
 {
     memset(memory, 0xA5, sizeof memory);
@@ -60,6 +60,10 @@ int main(void)
     check("tariff 5", 5, 0, take, 9, 14, MAQDYLEZ_FIGURES, 0);
     check("the last day", 4, 18262, take, 9, 14, MAQDYLEZ_ACCEPTED, 14);
     check("a day later", 4, 18263, take, 9, 14, MAQDYLEZ_FIGURES, 0);
+    /* cut to 32 bits these would be tariff 1 and day 1 */
+    check("tariff 4294967297", 4294967297, 0, take, 9, 14, MAQDYLEZ_FIGURES, 0);
+    check("day 4294967297", 1, 4294967297, take, 9, 14, MAQDYLEZ_FIGURES, 0);
+    check("the largest numbers", UINT64_MAX, UINT64_MAX, take, 9, 14, MAQDYLEZ_FIGURES, 0);
     /* A,r,19,7, then A,r,18,1 twice */
     check("a carriage return, a zero byte, bytes above 127", 1, 0, odd, 17, 100, MAQDYLEZ_ACCEPTED, 33);
 

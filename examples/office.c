@@ -1,6 +1,7 @@
 /* Prints the statement of a file of events: office FILE [TARIFF [OPENING]], tariff 1 and day 0 where they are left out. */
 #include "maqdylez.h"
 
+#include <errno.h>
 #include <stdio.h>
 #include <stdlib.h>
 
@@ -23,19 +24,31 @@ static const char *question(uint32_t number)
     }
 }
 
-/* An argument as a figure; one that is none asks for what no account has. */
-static uint32_t figure(const char *word)
+/* Whether an argument is digits alone, of a number of 64 bits; then n is that number. Its limits are the statement's to ask. */
+static int is_figure(const char *word, uint64_t *n)
 {
     char *end;
-    unsigned long n = strtoul(word, &end, 10);
 
-    return *word >= '0' && *word <= '9' && *end == '\0' && n <= UINT32_MAX ? (uint32_t)n : UINT32_MAX;
+    errno = 0;
+    unsigned long long read = strtoull(word, &end, 10);
+    *n = read;
+    return *word >= '0' && *word <= '9' && *end == '\0' && errno == 0;
 }
 
 int main(int argc, char **argv)
 {
     if (argc < 2 || argc > 4) {
         fprintf(stderr, "usage: %s FILE [TARIFF [OPENING]]\n", argv[0]);
+        return 1;
+    }
+    uint64_t tariff = 1;
+    if (argc > 2 && !is_figure(argv[2], &tariff)) {
+        fprintf(stderr, "office: the tariff's number has to be 1, 2, 3 or 4, not '%s'\n", argv[2]);
+        return 1;
+    }
+    uint64_t opening = 0;
+    if (argc > 3 && !is_figure(argv[3], &opening)) {
+        fprintf(stderr, "office: the opening day has to be from 0 to 18262, not '%s'\n", argv[3]);
         return 1;
     }
     FILE *file = fopen(argv[1], "rb");
@@ -51,8 +64,6 @@ int main(int argc, char **argv)
         return 1;
     }
 
-    uint32_t tariff = argc > 2 ? figure(argv[2]) : 1;
-    uint32_t opening = argc > 3 ? figure(argv[3]) : 0;
     maqdylez_answer answer = maqdylez_statement(tariff, opening, text, text_len, page, sizeof page);
     if (answer.number != MAQDYLEZ_ACCEPTED) {
         fprintf(stderr, "office: refused by question %u: %s\n", (unsigned)answer.number, question(answer.number));

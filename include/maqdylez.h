@@ -25,7 +25,7 @@ extern "C" {
 enum {
     MAQDYLEZ_ACCEPTED = 0, /* the page holds the statement; lines that were refused are told on it, in its A lines */
     MAQDYLEZ_FIGURES = 2,  /* the tariff's number is not 1 to 4, or the opening day not 0 to 18262 */
-    MAQDYLEZ_PAGE = 21,    /* the statement does not fit the page */
+    MAQDYLEZ_PAGE = 21,    /* the statement does not fit the page; it fits one of MAQDYLEZ_PAGE_FOR_ALL */
     MAQDYLEZ_TEXT = 22     /* the text is empty, or longer than MAQDYLEZ_LONGEST_TEXT */
 };
 
@@ -33,8 +33,9 @@ enum {
 #define MAQDYLEZ_LONGEST_TEXT 65536
 
 /*
- * A page of so many bytes has room for the statement of every text. A longer page is lawful too; all of a page is written,
- * so that a large one costs as much at each call.
+ * A page of so many bytes has room for the statement of every text, so that MAQDYLEZ_PAGE is not met; a refusal does not
+ * tell how long its page should have been. A longer page is lawful too; all of a page is written, so that a large one
+ * costs as much at each call.
  */
 #define MAQDYLEZ_PAGE_FOR_ALL 640000
 
@@ -51,10 +52,11 @@ typedef struct maqdylez_answer {
  * text     text_len bytes, a line for each event; no zero byte need follow
  * page     page_len bytes, all of which are written: the statement and then zeros, or zeros alone where it is refused
  *
+ * Both numbers may be any of 64 bits, and one out of limits is MAQDYLEZ_FIGURES; one below 0 becomes such a number in C.
  * Neither pointer may be null, also where its length is 0, and neither has to be aligned. Text and page must not overlap.
  * Nothing outside the page is written. The questions are put in this order: MAQDYLEZ_FIGURES, MAQDYLEZ_TEXT, MAQDYLEZ_PAGE.
  */
-maqdylez_answer maqdylez_statement(uint32_t tariff, uint32_t opening, const uint8_t *text, size_t text_len, uint8_t *page,
+maqdylez_answer maqdylez_statement(uint64_t tariff, uint64_t opening, const uint8_t *text, size_t text_len, uint8_t *page,
                                    size_t page_len);
 
 #ifdef __cplusplus

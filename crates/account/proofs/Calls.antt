@@ -18,7 +18,7 @@ use Rattle.figures.specs.declared.row.Row.{Row}
 use Rattle.figures.specs.declared.line.Line.{Line}
 use Rattle.account.specs.Lines.{lines_of, Grown}
 use Rattle.account.proofs.sheet.Relaid.{grown_none, grown_more}
-use Rattle.account.specs.Sums.{Totals, totals, nothing}
+use Rattle.account.specs.Sums.{Amounts, amounts_of, nothing}
 use Rattle.rules.specs.Questions as Questions
 use Rattle.account.specs.declared.account.Account.{Account}
 use Rattle.account.specs.declared.refusal.Refusal.{Refusal}
@@ -159,7 +159,7 @@ pub place_said : {T : Type 0} (a : Account T) → ltb (length (periods_of (state
 place_said a = ap₂ ltb (periods_length a) (sym a.sheet_limit)
 
 -- an account with other rows, these lines more, and other sums
-abbrev pub made : {T : Type 0} → Account T → List show.Row → List show.Line → Totals → State
+abbrev pub made : {T : Type 0} → Account T → List show.Row → List show.Line → Amounts → State
 made a rows ls t = record {
   granted = a.granted;
   holding = hold_of a.holding;
@@ -170,17 +170,17 @@ made a rows ls t = record {
   coming = t.coming;
 }
 
-abbrev made_of : ℕ → Option Questions.Hold → List show.Row → List show.Line → Totals → State
+abbrev made_of : ℕ → Option Questions.Hold → List show.Row → List show.Line → Amounts → State
 made_of g h rows lines t = record { granted = g; holding = h; rows = rows; lines = lines; balance = t.balance; due = t.due; coming = t.coming }
 
 abbrev opened_of : (day sheet journal : ℕ) → Opening
 opened_of day sheet journal = record { day = day; sheet = sheet; journal = journal }
 
-module _ {T : Type 0} (mean : T → Tariff) (a b : Account T) (rows : List show.Row) (ls : List show.Line) (t : Totals) (h : Changed mean a b rows ls t) where
+module _ {T : Type 0} (mean : T → Tariff) (a b : Account T) (rows : List show.Row) (ls : List show.Line) (t : Amounts) (h : Changed mean a b rows ls t) where
   changed_state : state_of b ≡ made a rows ls t
   changed_state =
-      ap₂ (λ g k. made_of g (hold_of k) (rows_of (pages_of b.sheet)) (lines_of (pages_of b.journal)) (totals b.sums)) h.granted h.holding
-      ∙ ap₂ (λ x y. made_of a.granted (hold_of a.holding) x y (totals b.sums)) h.rows h.journal.lines
+      ap₂ (λ g k. made_of g (hold_of k) (rows_of (pages_of b.sheet)) (lines_of (pages_of b.journal)) (amounts_of b.sums)) h.granted h.holding
+      ∙ ap₂ (λ x y. made_of a.granted (hold_of a.holding) x y (amounts_of b.sums)) h.rows h.journal.lines
       ∙ ap (made_of a.granted (hold_of a.holding) rows (lines_of (pages_of a.journal) ++ ls)) h.sums
 
   changed_opening : opening_of b ≡ opening_of a
@@ -214,13 +214,13 @@ pub grown_limit : {T : Type 0} (a : Account T) (q : Pages Line) (ls : List show.
 grown_limit a q ls g = g.limit ∙ a.journal_limit ∙ ap (λ n. min n 1024) (sym g.size)
 
 -- an account with nothing in it
-pub opened_is : {T : Type 0} (mean : T → Tariff) (a : Account T) (day : ℕ) (sheet : List Row) (journal : List Line) → a.opening.figure ≡ day → a.granted ≡ 0 → a.holding ≡ None → totals a.sums ≡ nothing → pages_of a.sheet ≡ fresh sheet 120 → pages_of a.journal ≡ fresh journal 1024 → Opened mean a a.tariff day sheet journal
+pub opened_is : {T : Type 0} (mean : T → Tariff) (a : Account T) (day : ℕ) (sheet : List Row) (journal : List Line) → a.opening.figure ≡ day → a.granted ≡ 0 → a.holding ≡ None → amounts_of a.sums ≡ nothing → pages_of a.sheet ≡ fresh sheet 120 → pages_of a.journal ≡ fresh journal 1024 → Opened mean a a.tariff day sheet journal
 opened_is mean a day sheet journal d g h s p q =
     let rows = ap (λ (x : Pages Row). x.memory) p in
     let lines = ap (λ (x : Pages Line). x.memory) q in
     let e : state_of a ≡ opened =
-    ap₂ (λ x y. made_of x (hold_of y) (rows_of (pages_of a.sheet)) (lines_of (pages_of a.journal)) (totals a.sums)) g h
-    ∙ ap₂ (λ x y. made_of 0 None (rows_of x) (lines_of y) (totals a.sums)) p q
+    ap₂ (λ x y. made_of x (hold_of y) (rows_of (pages_of a.sheet)) (lines_of (pages_of a.journal)) (amounts_of a.sums)) g h
+    ∙ ap₂ (λ x y. made_of 0 None (rows_of x) (lines_of y) (amounts_of a.sums)) p q
     ∙ ap (made_of 0 None [] []) s in
     let o : opening_of a ≡ opened_over day sheet journal =
     ap (λ x. opened_of x (length a.sheet.memory.now) (length a.journal.memory.now)) d ∙ ap₂ (λ x y. opened_of day (length x) (length y)) rows lines in

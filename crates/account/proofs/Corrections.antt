@@ -4,17 +4,17 @@ use Rattle.std.proofs.lemmas.Bool.{and_parts, leb-true, ltb-true}
 use Rattle.rules.specs.Subject.{Tariff, Opening, Finding, Method, correct}
 use Rattle.rules.specs.Laid.{rewritten, corrected}
 use Rattle.account.specs.Few.{six_at_most}
-use Rattle.rules.specs.Questions.{question, asked, all_fit, bills}
+use Rattle.rules.specs.Questions.{question, asked, every, sort_fits, all_fit, bills}
 use Rattle.rules.specs.Shown as show
 use Rattle.rules.specs.Journal.{cents_of}
-use Rattle.rules.specs.Machine.{period_of, periods_of, view, relay, posts, effect}
-use Rattle.rules.proofs.Runs.{length-posts, relay_periods}
+use Rattle.rules.specs.Machine.{period_of, periods_of, view, relaid, posts, effect}
+use Rattle.rules.proofs.Runs.{length-posts, relaid_periods}
 use Rattle.account.proofs.Spans.{six_corrected, rows_few}
 use Rattle.rules.proofs.Dues.{bills_limit}
 use Rattle.book.specs.Pages.{Pages, pages_of}
 use Rattle.figures.specs.declared.line.Line.{Line}
 use Rattle.account.specs.Lines.{Grown}
-use Rattle.account.specs.Sums.{totals, corrected_by}
+use Rattle.account.specs.Sums.{amounts_of, corrected_by}
 use Rattle.account.specs.declared.account.Account.{Account}
 use Rattle.account.specs.State.{state_of, opening_of}
 use Rattle.rules.proofs.Holds.{all_yes}
@@ -24,6 +24,7 @@ use Rattle.account.proofs.Calls.{room_said, periods_length, made}
 pub record Correctable {T : Type 0} (a : Account T) (f : Finding) (m : Method) : Type 0 where
   pub ordered : f.first ≤ f.last
   pub billed : f.last < a.sheet.filled
+  pub sorts : every (sort_fits f) 0 (periods_of (state_of a)) ≡ true
   pub fits : all_fit (rewritten f 0 (corrected f m 0 0 0 (periods_of (state_of a)))) ≡ true
   pub few : length (rewritten f 0 (periods_of (state_of a))) ≤ 12
   pub bills : bills f ≤ 12
@@ -37,6 +38,7 @@ correct_yes a hold f m e =
     record {
       ordered = leb-true _ _ five.0;
       billed = omega (arith, ltb-true _ _ five.1, periods_length a);
+      sorts = (and_parts _ _ y.1.1.1.0).0;
       fits = y.1.1.1.1.1.1.0;
       few = rows_few f (periods_of (state_of a)) y.1.1.1.0 y.1.1.1.1.0 a.runs;
       bills = bills_limit f.cause f.side f (periods_of (state_of a)) y.1.1.1.1.0;
@@ -46,17 +48,17 @@ correct_yes a hold f m e =
 -- what a correction does, in the words of the step
 pub corrected_is : {T : Type 0} (t : Tariff) (o : Opening) (a : Account T) (hold hold' : ℕ) (f : Finding) (m : Method) (u : ℤ) (n lines : ℕ) → hold ≡ hold' →
     u ≡ cents_of (posts t f m hold 0 0 0 (state_of a).rows) → n ≡ bills f →
-    made a (relay t f m 0 0 0 (state_of a).rows) (posts t f m hold 0 0 0 (state_of a).rows) (corrected_by (totals a.sums) u n lines) ≡ effect t o (state_of a) (correct hold' f m)
+    made a (relaid t f m 0 0 0 (state_of a).rows) (posts t f m hold 0 0 0 (state_of a).rows) (corrected_by (amounts_of a.sums) u n lines) ≡ effect t o (state_of a) (correct hold' f m)
 unfolding effect
 corrected_is t o a hold hold' f m u n lines h e k =
-    ap₂ (λ x y. made a (relay t f m 0 0 0 (state_of a).rows) (posts t f m hold 0 0 0 (state_of a).rows) (corrected_by (totals a.sums) x y lines)) e k
-    ∙ ap (λ z. made a (relay t f m 0 0 0 (state_of a).rows) (posts t f m z 0 0 0 (state_of a).rows) (corrected_by (totals a.sums) (cents_of (posts t f m z 0 0 0 (state_of a).rows)) (bills f) lines)) h
+    ap₂ (λ x y. made a (relaid t f m 0 0 0 (state_of a).rows) (posts t f m hold 0 0 0 (state_of a).rows) (corrected_by (amounts_of a.sums) x y lines)) e k
+    ∙ ap (λ z. made a (relaid t f m 0 0 0 (state_of a).rows) (posts t f m z 0 0 0 (state_of a).rows) (corrected_by (amounts_of a.sums) (cents_of (posts t f m z 0 0 0 (state_of a).rows)) (bills f) lines)) h
 
 -- its runs have still six estimated rows at most
-pub runs_relaid : {T : Type 0} (a : Account T) (new : List show.Row) (t : Tariff) (f : Finding) (m : Method) → new ≡ relay t f m 0 0 0 (state_of a).rows → six_at_most 0 (map period_of new) ≡ true
+pub runs_relaid : {T : Type 0} (a : Account T) (new : List show.Row) (t : Tariff) (f : Finding) (m : Method) → new ≡ relaid t f m 0 0 0 (state_of a).rows → six_at_most 0 (map period_of new) ≡ true
 runs_relaid a new t f m e =
     ap (λ rs. six_at_most 0 (map period_of rs)) e
-    ∙ ap (six_at_most 0) (relay_periods t f m 0 0 0 (state_of a).rows)
+    ∙ ap (six_at_most 0) (relaid_periods t f m 0 0 0 (state_of a).rows)
     ∙ six_corrected f m 0 0 0 0 (periods_of (state_of a)) a.runs
 
 -- the lines that a correction adds have their places

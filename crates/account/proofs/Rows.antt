@@ -12,7 +12,7 @@ use Rattle.book.specs.Pages.{Pages, pages_of, written}
 use Rattle.figures.specs.View.{seen, period_seen}
 use Rattle.figures.specs.declared.row.Row.{Row}
 use Rattle.account.specs.Rows.{rows_of}
-use Rattle.account.specs.Sums.{totals, billed_by}
+use Rattle.account.specs.Sums.{amounts_of, billed_by}
 use Rattle.account.specs.declared.account.Account.{Account}
 use Rattle.account.specs.State.{state_of}
 use Rattle.account.proofs.Calls.{rows_length, made}
@@ -51,7 +51,7 @@ abbrev pub bill_line : (hold row : ℕ) → ℤ → show.Line
 bill_line hold row cents = record { hold = hold; letter = show.B; row = Some row; cents = cents }
 
 abbrev pub billed_more : {T : Type 0} → Account T → (hold row : ℕ) → show.Row → State
-billed_more a hold place r = made a (rows_of (pages_of a.sheet) ++ (r ∷ [])) (bill_line hold place (pos r.cents) ∷ []) (billed_by (totals a.sums) r.cents)
+billed_more a hold place r = made a (rows_of (pages_of a.sheet) ++ (r ∷ [])) (bill_line hold place (pos r.cents) ∷ []) (billed_by (amounts_of a.sums) r.cents)
 
 -- a row entered is what a bill or an estimate does
 pub entered_is : {T : Type 0} (t : Tariff) (a : Account T) (hold hold' : ℕ) (r : show.Row) (p : Period) → hold ≡ hold' → r ≡ show.row_of t p → billed_more a hold a.sheet.filled r ≡ bill_row t (state_of a) hold' p

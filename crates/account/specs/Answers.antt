@@ -43,7 +43,7 @@ abbrev pub corrected_answer : Result Money Refusal → Answer
 corrected_answer = answered (λ u. u.0)
 
 abbrev pub paid_answer : Result Payment Refusal → Answer
-paid_answer = answered (λ p. pos p.cents)
+paid_answer = answered (λ p. pos p.cents.0)
 
 -- one question: a yes gives something made, a no gives its refusal
 abbrev pub Says : {X : Type 0} → Bool → (X → Type 0) → Refusal → Result X Refusal → Type 0

@@ -7,3 +7,4 @@ pub mod Lines
 pub mod Weighing
 pub mod Bounds
 pub mod Sums
+pub mod Totals

@@ -17,5 +17,5 @@ Light m v w = Weighed m 1 v w
 
 -- the running wholes are those of the running weights
 pub record Whole (m : Method) (s : Sharing) : Type 0 where
-  pub day : s.wholes.day ≡ whole (m.upper day_units) m.lower s.weights.day
-  pub peak : s.wholes.peak ≡ whole (m.upper peak_units) m.lower s.weights.peak
+  pub day : s.wholes.day.0 ≡ whole (m.upper day_units) m.lower s.weights.day
+  pub peak : s.wholes.peak.0 ≡ whole (m.upper peak_units) m.lower s.weights.peak

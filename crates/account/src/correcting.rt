@@ -1,7 +1,7 @@
 // Corrections.
 ghost use Rattle.std.specs.Prelude.{◌≡◌, ℕ, ◌+◌, ◌-◌, ◌<◌, ◌≤◌, length};
 ghost use Rattle.rules.specs.Subject.{correct};
-ghost use Rattle.rules.specs.Questions.{question, first_no, rows_asked, bills as bills_of};
+ghost use Rattle.rules.specs.Questions.{question, first_no, rows_asked, bills};
 ghost use Rattle.rules.specs.Laid.{rewritten};
 ghost use Rattle.rules.specs.Machine.{view};
 ghost use Rattle.method.specs.Uses.{finding_of};
@@ -21,9 +21,9 @@ use method::method::{Method, may_serve};
 use tariff::tariff::Tariff;
 
 /// Over how many bills an undercharge is spread.
-fn bills(f: Finding) -> Bills
-    requires { (f.span.first ≤ f.span.last) × (f.span.last < 1000) × (bills_of (finding_of f) ≤ 12) }
-    ensures { result.count ≡ bills_of (finding_of f) }
+fn bills_for(f: Finding) -> Bills
+    requires { (f.span.first ≤ f.span.last) × (f.span.last < 1000) × (bills (finding_of f) ≤ 12) }
+    ensures { result.count ≡ bills (finding_of f) }
 {
     let count = match f.cause {
         Cause::Absent => 6,
@@ -90,7 +90,7 @@ impl<'a, T: Tariff> Account<'a, T> {
         );
         // counted where they were written, so that the sums rest on the journal itself
         let lines = (self.journal.len() - before) as u32;
-        self.sums.correct(u, bills(f), lines);
+        self.sums.correct(u, bills_for(f), lines);
         Ok(u)
     }
 }

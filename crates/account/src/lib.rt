@@ -14,3 +14,4 @@ pub mod paying;
 pub mod refusal;
 pub(crate) mod sheet;
 pub mod sums;
+pub mod totals;

@@ -23,7 +23,7 @@ struct Paying {
 impl<'a, T: Tariff> Account<'a, T> {
     /// The questions of a payment.
     fn ask_pay(&self, hold: u64, cents: Cents) -> Result<Paying, Refusal>
-        ensures { Asked (question (opening_of self.now) (view (state_of self.now)) (pay hold cents.0)) (λ p. (p.hold ≡ hold) × (p.payment.cents ≡ cents.0) × (self.now.journal.filled + 1 ≤ self.now.journal.limit)) result }
+        ensures { Asked (question (opening_of self.now) (view (state_of self.now)) (pay hold cents.0)) (λ p. (p.hold ≡ hold) × (p.payment.cents.0 ≡ cents.0) × (self.now.journal.filled + 1 ≤ self.now.journal.limit)) result }
     {
         let hold = self.held(hold)?;
         let payment = Payment::new(cents)?;

@@ -57,7 +57,7 @@ fn bill<T: Tariff>(
 fn pay<T: Tariff>(account: &mut Account<T>, hold: u64, cents: Cents) -> Result<i64, Fault>
     ensures after { Called T.Tariff.meaning account.old account.new (Ok (paying hold cents.0)) result }
 {
-    Ok(account.pay(hold, cents)?.cents as i64)
+    Ok(account.pay(hold, cents)?.cents.0 as i64)
 }
 
 /// Puts an estimate to the account by the method that was made for it, if one was: the value is the cents estimated.

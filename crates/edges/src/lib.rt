@@ -18,4 +18,6 @@ mod periods;
 #[cfg(test)]
 mod runs;
 #[cfg(test)]
+mod totals;
+#[cfg(test)]
 mod writing;

@@ -172,7 +172,7 @@ fn holds(page: &[u8], expected: &[u8]) -> bool {
 }
 
 /// The bytes of a statement's result, or the number of its refusal, as C reads it.
-fn stated(tariff: u32, opening: u32, text: &[u8], page: &mut [u8]) -> Result<usize, u32> {
+fn stated(tariff: u64, opening: u64, text: &[u8], page: &mut [u8]) -> Result<usize, u32> {
     statement(tariff, opening, text, page).map_err(Refused::number)
 }
 
@@ -201,6 +201,9 @@ fn what_a_statement_refuses(rt: HostRuntime) {
     assert_eq!(rt; stated(0, 0, b"", &mut page), Err(2));
     assert_eq!(rt; stated(5, 0, b"", &mut page), Err(2));
     assert_eq!(rt; stated(1, 18_263, b"", &mut page), Err(2));
+    // cut to 32 bits, the tariff would be 1 and the day 0
+    assert_eq!(rt; stated(4_294_967_297, 0, b"", &mut page), Err(2));
+    assert_eq!(rt; stated(1, 4_294_967_296, b"", &mut page), Err(2));
     assert_eq!(rt; stated(1, 18_262, b"", &mut page), Err(22));
     assert!(rt; holds(&page, b""));
     assert_eq!(rt; stated(4, 18_262, b"\n", &mut page), Ok(15));

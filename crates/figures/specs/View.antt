@@ -1,13 +1,11 @@
 -- The figures of the code as the rules have them, their limits forgotten. Assumes nothing.
 use Rattle.rules.specs.Subject as rules
 use Rattle.rules.specs.Shown as show
+pub use Rattle.figures.specs.Parts.{regs, sort_of}
 use Rattle.figures.specs.declared.reported.Cents.{Cents}
 use Rattle.figures.specs.declared.reported.Reading.{Reading}
 use Rattle.figures.specs.declared.units.Register.{Register}
 use Rattle.figures.specs.declared.units.Register.TheVariants.{Day, Peak}
-use Rattle.figures.specs.declared.units.Registers.{Registers}
-use Rattle.figures.specs.declared.row.Sort.{Sort}
-use Rattle.figures.specs.declared.row.Sort.TheVariants.{Read, Estimated, NoEnergy}
 use Rattle.figures.specs.declared.row.Row.{Row}
 use Rattle.figures.specs.declared.line.Line.{Line}
 use Rattle.figures.specs.declared.up_to.UpTo.{UpTo}
@@ -17,17 +15,9 @@ use Rattle.figures.specs.declared.line.Letter.TheVariants.{Bill, Correction, Pay
 abbrev pub reading_of : Reading → rules.Registers
 reading_of r = record { day = r.day.0; peak = r.peak.0; demand = r.demand.0 }
 
-abbrev pub regs : Registers → rules.Registers
-regs r = record { day = r.day.figure.0; peak = r.peak.figure.0; demand = r.demand.figure.0 }
-
 abbrev pub register_of : Register → rules.Register
 register_of Day = rules.day_units
 register_of Peak = rules.peak_units
-
-abbrev pub sort_of : Sort → rules.Sort
-sort_of Read = rules.read
-sort_of Estimated = rules.estimated
-sort_of NoEnergy = rules.no_energy
 
 abbrev pub period_seen : Row → rules.Period
 period_seen r = record {

@@ -1,7 +1,8 @@
-// One billed period: a row of the sheet. Each part keeps its own limits, so no row is outside them.
-ghost use Rattle.std.specs.Prelude.{◌≡◌};
-ghost use Rattle.rules.specs.Subject.{days, is_read};
-ghost use Rattle.figures.specs.View.{regs, sort_of, period_seen};
+// One billed period: a row of the sheet. Each part keeps its own limits, so no row is outside them, and a row has no
+// registers that its sort forbids.
+ghost use Rattle.std.specs.Prelude.{◌≡◌, true};
+ghost use Rattle.rules.specs.Subject.{zeros, no_energy, is_unmetered};
+ghost use Rattle.figures.specs.Parts.{regs, sort_of};
 
 use crate::dates::{Day, Days, Term};
 use crate::money::Charge;
@@ -16,7 +17,8 @@ pub enum Sort {
     NoEnergy,
 }
 
-/// The recorded registers are what the meter showed; the standing ones are charged.
+/// The recorded registers are what the meter showed: zeros where it was not read. The standing ones are charged: zeros where
+/// the row is without energy.
 #[derive(Clone, Copy)]
 pub struct Row {
     pub term: Term,
@@ -24,6 +26,8 @@ pub struct Row {
     pub recorded: Registers,
     pub standing: Registers,
     pub charge: Charge,
+    ghost nothing_recorded: { is_unmetered (sort_of sort) ≡ true → regs recorded ≡ zeros },
+    ghost nothing_stands: { sort_of sort ≡ no_energy → regs standing ≡ zeros },
 }
 
 /// What of a row a method may weigh.
@@ -46,6 +50,9 @@ pub const BLANK: Row = Row {
 };
 
 impl Row {
+    ghost use Rattle.rules.specs.Subject.{days, is_read};
+    ghost use Rattle.figures.specs.View.{period_seen};
+
     pub fn is_read(&self) -> bool
         ensures { result ≡ is_read (sort_of self.now.sort) }
     {

@@ -4,7 +4,7 @@ use Rattle.std.proofs.lemmas.Bool.{cond_both, and_parts, and_from}
 use Rattle.rules.specs.Subject.{Registers, estimated, no_energy, Period, is_read, Finding, Method, day_weight, peak_weight, Call, take as taken, hand_back, bill, estimate, correct, pay, Opening}
 use Rattle.rules.specs.Laid.{next_day, is_late, laid, with_standing, blank, metered, without_reading, rewrites, corrected}
 use Rattle.rules.specs.Questions.{is_day, is_reading, is_term, every, asked}
-use Rattle.rules.specs.Given.{given, accepted, billed}
+use Rattle.rules.specs.Given.{accepted, billed}
 use Rattle.rules.specs.Law.{Every}
 use Rattle.rules.proofs.Journal.{Each}
 use Rattle.rules.proofs.Runs.{Passed, accepted_passed}

@@ -29,7 +29,7 @@ not_three xs f h =
     ap (λ three. three && all_read (three_from f ps)) (ne_eqb (length (three_from f ps)) 3 (λ e. omega arith))
 
 -- three rows that were read, and have units, pass the questions of the previous three
-pub with_units : (t : ThreeRows) (f : ℕ) (ps : List Period) → are_three (three_from f ps) ≡ true → Reckoned t (three_from f ps) → 0 < t.day + t.peak → first_no (previous_asked f ps) ≡ 0
+pub with_units : (t : ThreeRows) (f : ℕ) (ps : List Period) → are_three (three_from f ps) ≡ true → Reckoned t (three_from f ps) → 0 < t.day.0 + t.peak.0 → first_no (previous_asked f ps) ≡ 0
 with_units t f ps are r some =
     let three = three_from f ps in
     let units : 0 < units_of day_units three + units_of peak_units three = omega (arith, r.day, r.peak) in

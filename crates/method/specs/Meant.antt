@@ -22,7 +22,7 @@ contract_of m =
 
 abbrev pub three_of : (Use → Bool) → (Use → ℕ → ℕ → Bool) → ThreeRows → Method
 three_of uses fitness t =
-    by_three uses fitness t.day t.peak t.days t.demand.figure.0
+    by_three uses fitness t.day.0 t.peak.0 t.days t.demand.figure.0
     t.day_most t.peak_most t.days_least t.days_most t.demand.ok
 
 abbrev pub previous_of : PreviousThree → Method

@@ -5,8 +5,8 @@ use Rattle.method.specs.declared.three_rows.ThreeRows.{ThreeRows}
 use Rattle.method.specs.Three.{are_three, units_of, days_of, average_of}
 
 pub record Reckoned (t : ThreeRows) (ps : List Period) : Type 0 where
-  pub day : t.day ≡ units_of day_units ps
-  pub peak : t.peak ≡ units_of peak_units ps
+  pub day : t.day.0 ≡ units_of day_units ps
+  pub peak : t.peak.0 ≡ units_of peak_units ps
   pub days : t.days ≡ days_of ps
   pub demand : t.demand.figure.0 ≡ average_of ps
 

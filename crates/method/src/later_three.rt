@@ -53,7 +53,7 @@ impl Method for LaterThree {
     ghost tied = { λ _. named_back missing };
 
     fn upper(&self, k: Register) -> u64 {
-        self.three.units(k)
+        self.three.units(k).0
     }
 
     fn lower(&self) -> u64 {

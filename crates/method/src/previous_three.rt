@@ -31,7 +31,7 @@ impl PreviousThree {
         ensures made { made_as previous_of result ≡ previous_made from (map period_seen rows.now) }
     {
         let three = ThreeRows::new(rows, from).ok_or(MethodFault::NotRead)?;
-        if three.day + three.peak == 0 {
+        if three.day.0 + three.peak.0 == 0 {
             return Err(MethodFault::NoUnits);
         }
         Ok(PreviousThree { three })
@@ -55,7 +55,7 @@ impl Method for PreviousThree {
     ghost tied = { λ _. named_back stopping };
 
     fn upper(&self, k: Register) -> u64 {
-        self.three.units(k)
+        self.three.units(k).0
     }
 
     fn lower(&self) -> u64 {

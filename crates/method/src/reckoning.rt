@@ -7,7 +7,7 @@ ghost use Rattle.method.specs.ReadRows.{SortsTellWhatWasRead};
 ghost use Rattle.method.specs.Reckoned.{ReckonedFrom};
 
 use crate::three_rows::ThreeRows;
-use figures::reported::Kva;
+use figures::reported::{Kva, Kwh};
 use figures::row::Row;
 use figures::units::{Demand, Register};
 
@@ -22,8 +22,8 @@ impl ThreeRows {
         let demands = p.demand.figure.0 + q.demand.figure.0 + r.demand.figure.0;
         Some(ThreeRows {
             from,
-            day: p.day.figure.0 + q.day.figure.0 + r.day.figure.0,
-            peak: p.peak.figure.0 + q.peak.figure.0 + r.peak.figure.0,
+            day: Kwh(p.day.figure.0 + q.day.figure.0 + r.day.figure.0),
+            peak: Kwh(p.peak.figure.0 + q.peak.figure.0 + r.peak.figure.0),
             days: a.term.days().count + b.term.days().count + c.term.days().count,
             demand: Demand {
                 figure: Kva(demands.div_ceil(3)),
@@ -42,8 +42,8 @@ impl ThreeRows {
     }
 
     /// The recorded units of a register.
-    pub fn units(self, k: Register) -> u64
-        ensures { result ≡ of_both self.day self.peak (register_of k) }
+    pub fn units(self, k: Register) -> Kwh
+        ensures { result.0 ≡ of_both self.day.0 self.peak.0 (register_of k) }
     {
         match k {
             Register::Day => self.day,

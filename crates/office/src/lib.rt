@@ -13,8 +13,8 @@ pub use answer::Answer;
 /// clauses are the statement's, said again: no contract passes through a call by itself.
 #[unsafe(no_mangle)]
 pub extern "C" fn maqdylez_statement(
-    tariff: u32,
-    opening: u32,
+    tariff: u64,
+    opening: u64,
     text: &[u8],
     page: &mut [u8],
 ) -> Answer

@@ -2,6 +2,8 @@
 use Rattle.std.proofs.Common.{rules, ◌≡◌, ℕ, ◌+◌, ◌<◌, ◌≤◌, List, [], ◌∷◌, ◌++◌, map, length, get_or, take, drop, Some, None, Ok, Err, Option, Result, refl, sym, ap, ◌∙◌, subst, ⊎_elim, add_assoc, take-append-drop, arith}
 use Rattle.std.specs.Prelude.{IsErr}
 use Rattle.std.specs.List.{flat_map}
+use Rattle.std.specs.Io.{StartsWith}
+use Rattle.std.proofs.Transfers.{starts_with_of_eq, starts_with_of_append, starts_with_trans}
 use Rattle.std.proofs.lemmas.List.{append-nil, append_assoc, length-append, length-take, map-append, map_push, take_more, flat_map_more}
 use Rattle.std.proofs.lemmas.List.Concat.{flat_map-append}
 use Rattle.std.proofs.lemmas.Bool.{le-leb, lt-leb, cases_lt}
@@ -18,6 +20,14 @@ put_put n (Some s) t u =
     (λ (fits : length s + length t ≤ n). simp (le-leb _ _ fits) (simp (length-append, append_assoc, add_assoc)))
     (cases_lt n (length s + length t))
 
+-- what a write that ended well left
+ok_held : (n : ℕ) (s t q : List ℕ) → Some q ≡ put n (Some s) t → q ≡ s ++ t
+ok_held n s t q e =
+    ⊎_elim
+    (λ (over : n < length s + length t). absurd (search (rules, e, lt-leb _ _ over)))
+    (λ (fits : length s + length t ≤ n). search (rules, e, le-leb _ _ fits))
+    (cases_lt n (length s + length t))
+
 infixl 20 ◌then◌
 pub ◌then◌ : {p q r : Page} {d : Unit {0}} {z : Result (Unit {0}) Full} {t u : List ℕ} → Wrote p q (Ok d) t → Wrote q r z u → Wrote p r z (t ++ u)
 ◌then◌ {p} {q} {r} {d} {z} {t} {u} a b = record {
@@ -28,6 +38,11 @@ pub ◌then◌ : {p q r : Page} {d : Unit {0}} {z : Result (Unit {0}) Full} {t u
       ∙ ap (λ n. put n (Some (held q)) u) a.long
       ∙ ap (λ o. put (length p.bytes.now) o u) a.text
       ∙ put_put (length p.bytes.now) (Some (held p)) t u;
+  stays = starts_with_trans _ _ _ b.stays a.stays;
+  part =
+      subst (λ l. StartsWith l (held r))
+      (ap (λ l. l ++ u) (ok_held _ _ _ _ a.text) ∙ append_assoc (held p) t u)
+      b.part;
 }
 
 -- nothing written fits
@@ -39,7 +54,7 @@ nothing_more n s fits =
 pub wrote_none : (p : Page) → Wrote p p (Ok tt) []
 wrote_none p =
     let fits : length (held p) ≤ length p.bytes.now = simp length-take (omega arith) in
-    record { lent = refl; long = refl; text = nothing_more (length p.bytes.now) (held p) fits }
+    record { lent = refl; long = refl; text = nothing_more (length p.bytes.now) (held p) fits; stays = starts_with_of_eq _ _ refl; part = starts_with_of_append _ _ [] refl }
 
 -- what does not fit does not fit with more after it
 pub stopped : {p q : Page} {e : Full} {t : List ℕ} (u : List ℕ) → Wrote p q (Err e) t → Wrote p q (Err e) (t ++ u)
@@ -47,6 +62,8 @@ stopped {p} {q} {e} {t} u a = record {
   lent = a.lent;
   long = a.long;
   text = ap (λ o. put (length p.bytes.now) o u) a.text ∙ put_put (length p.bytes.now) (Some (held p)) t u;
+  stays = a.stays;
+  part = starts_with_trans _ _ _ (starts_with_of_append _ _ u (sym (append_assoc (held p) t u))) a.part;
 }
 
 -- a write that ended in an error
@@ -55,7 +72,7 @@ err_kept q (Ok d) h = cc
 err_kept q (Err e) h = refl
 
 pub risen : {p q : Page} {z : Result (Unit {0}) Full} {e : Full} {t : List ℕ} → IsErr z → Wrote p q (Err e) t → Wrote p q z t
-risen {p} {q} {z} h a = record { lent = a.lent; long = a.long; text = err_kept q z h ∙ a.text }
+risen {p} {q} {z} h a = record { lent = a.lent; long = a.long; text = err_kept q z h ∙ a.text; stays = a.stays; part = a.part }
 
 full_err : (r : Result ℕ Full) → IsErr r → r ≡ Err (record {})
 full_err (Ok n) h = cc

@@ -1,5 +1,6 @@
 -- What is written on a page. Assumes nothing.
 use Rattle.std.specs.Prelude.{◌≡◌, ℕ, ◌+◌, ◌-◌, cond, List, ◌++◌, length, take, replicate, Some, None, Ok, Err, Option, Result, nat_le}
+use Rattle.std.specs.Io.{StartsWith}
 use Rattle.page.specs.declared.kept.Page.{Page}
 use Rattle.page.specs.declared.writes.Full.{Full}
 
@@ -17,11 +18,14 @@ abbrev pub kept : Page → Result (Unit {0}) Full → Option (List ℕ)
 kept p (Ok done) = Some (held p)
 kept p (Err full) = None
 
--- t was written on the page p, which is then q, or it did not fit there, and what q then holds is open
+-- t was written on the page p, which is then q, or it did not fit there: a beginning of it may then stand after what
+-- was written before, which stays
 pub record Wrote (p q : Page) (r : Result (Unit {0}) Full) (t : List ℕ) : Type 0 where
   pub lent : q.bytes.ghost_name ≡ p.bytes.ghost_name
   pub long : length q.bytes.now ≡ length p.bytes.now
   pub text : kept q r ≡ put (length p.bytes.now) (Some (held p)) t
+  pub stays : StartsWith (held q) (held p)
+  pub part : StartsWith (held p ++ t) (held q)
 
 -- how many bytes a text has, where it fits a page of n bytes
 abbrev pub fitted : (n : ℕ) → List ℕ → Result ℕ Full

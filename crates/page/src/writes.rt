@@ -3,7 +3,7 @@
 // It is no `fmt::Write`: std says nothing of a writer after an `Err`, so that a page written by `write!` could not
 // promise that 21 is answered only where the result does not fit. The writes are inlined: called, they make a
 // statement of short lines up to two fifths slower.
-ghost use Rattle.std.specs.Prelude.{◌≡◌, [], ◌∷◌, length, decimal};
+ghost use Rattle.std.specs.Prelude.{◌≡◌, [], ◌∷◌, length, decimal, OnErr};
 ghost use Rattle.std.specs.Fmt.{signed_decimal};
 ghost use Rattle.page.specs.Writes.{held, Wrote, padded};
 
@@ -12,7 +12,8 @@ use crate::kept::Page;
 use figures::money::Money;
 use itoa::write_digits;
 
-/// What was to be written does not fit the page. A refused write leaves anything on it.
+/// What was to be written does not fit the page. A refused write of `Page` leaves what was written as it was; of a line that is
+/// made of several writes the first of them stay.
 #[derive(Clone, Copy)]
 pub struct Full;
 
@@ -26,7 +27,8 @@ impl<'a> Page<'a> {
 
     #[inline(always)]
     pub fn push(&mut self, byte: u8) -> Result<(), Full>
-        ensures { Wrote self.old self.new result (byte ∷ []) }
+        ensures after { Wrote self.old self.new result (byte ∷ []) }
+        ensures refused { OnErr result (held self.new ≡ held self.old) }
     {
         if self.at == self.bytes.len() {
             return Err(Full);
@@ -39,7 +41,8 @@ impl<'a> Page<'a> {
 
     #[inline(always)]
     pub fn text(&mut self, text: &[u8]) -> Result<(), Full>
-        ensures { Wrote self.old self.new result text.now }
+        ensures after { Wrote self.old self.new result text.now }
+        ensures refused { OnErr result (held self.new ≡ held self.old) }
     {
         if text.len() > self.bytes.len() - self.at {
             return Err(Full);
@@ -54,7 +57,8 @@ impl<'a> Page<'a> {
     #[inline(always)]
     #[tactic(auto, using(std::proofs::lemmas::Fmt::decimal_digit))]
     pub fn figure(&mut self, n: u64) -> Result<(), Full>
-        ensures { Wrote self.old self.new result (decimal n) }
+        ensures after { Wrote self.old self.new result (decimal n) }
+        ensures refused { OnErr result (held self.new ≡ held self.old) }
     {
         if n < 10 {
             return self.push(b'0' + n as u8);
@@ -72,12 +76,19 @@ impl<'a> Page<'a> {
     /// A signed amount, with a minus where it is below zero.
     #[inline(always)]
     pub fn cents(&mut self, amount: Money) -> Result<(), Full>
-        ensures { Wrote self.old self.new result (signed_decimal amount.0) }
+        ensures after { Wrote self.old self.new result (signed_decimal amount.0) }
+        ensures refused { OnErr result (held self.new ≡ held self.old) }
     {
+        let start = self.at;
         if amount.0 < 0 {
             self.push(b'-')?;
         }
-        self.figure(amount.0.unsigned_abs())
+        let digits = self.figure(amount.0.unsigned_abs());
+        if digits.is_err() {
+            // the minus goes where its digits do not fit
+            self.at = start;
+        }
+        digits
     }
 
     /// Ends the page: zeros after what was written. The answer is how many bytes were written.

@@ -1,6 +1,6 @@
 -- What each call lays down, between the periods before it and those after it, and what then stands.
 use Rattle.std.specs.Prelude.{◌≡◌, ℕ, ◌+◌, ◌-◌, ◌<◌, ◌≤◌, Bool, true, false, not, ◌&&◌, ◌||◌, List, [], ◌∷◌, ◌++◌, map, length, take as leading, drop, filter, slice_get, ◌==◌, nat_le}
-use Rattle.rules.specs.Subject.{zeros, Register, units, read, estimated, no_energy, Period, days, is_estimated, Finding, Method, Call, take, hand_back, bill, estimate, correct, pay, Opening}
+use Rattle.rules.specs.Subject.{zeros, Register, units, read, estimated, no_energy, Period, days, is_estimated, Finding, Method, Call, bill, estimate, correct, Opening}
 use Rattle.rules.specs.Sharing.{Shared}
 use Rattle.rules.specs.Laid.{next_day}
 use Rattle.rules.specs.Questions.{is_absent, row_is}
@@ -55,13 +55,11 @@ pub record CorrectedBy (f : Finding) (m : Method) (old new : List Period) : Type
 
 -- what a call lays down, where the calls before it gave the periods old
 abbrev pub LaysDown : Opening → Call → (before : List Call) → (old new : List Period) → Type 0
-LaysDown o (take now length) before old new = new ≡ old
-LaysDown o (hand_back hold) before old new = new ≡ old
 LaysDown o (bill hold last r) before old new =
     new ≡ old ++ (record { first = next_day o.day old; last = last; sort = read; recorded = r; standing = r } ∷ [])
 LaysDown o (estimate hold last m) before old new = Unmetered (next_day o.day old) last (estimates_since_bill before) m old new
 LaysDown o (correct hold f m) before old new = CorrectedBy f m old new
-LaysDown o (pay hold cents) before old new = new ≡ old
+LaysDown o c before old new = new ≡ old
 
 -- the same of an accepted call and the accepted calls before it
 abbrev pub Lays : Opening → Call → List Call → Type 0

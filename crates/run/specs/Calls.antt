@@ -28,7 +28,7 @@ value_of (Granted hold) = pos hold
 value_of HandedBack = pos 0
 value_of (Billed charge) = pos charge.figure.0
 value_of (Corrected u) = u.0
-value_of (Paid payment) = pos payment.cents
+value_of (Paid payment) = pos payment.cents.0
 
 -- number 0 and that value, or a refusal's number and 0
 abbrev pub answer_of : Result Done Refusal → Answer

@@ -31,7 +31,7 @@ impl Done {
             Done::HandedBack => 0,
             Done::Billed(charge) => charge.figure.0 as i64,
             Done::Corrected(u) => u.0,
-            Done::Paid(payment) => payment.cents as i64,
+            Done::Paid(payment) => payment.cents.0 as i64,
         }
     }
 }

@@ -3,12 +3,12 @@
 /// A stored session, with the tariff's number and the opening day of its account.
 pub(crate) struct Session {
     pub(crate) name: &'static str,
-    pub(crate) tariff: u32,
-    pub(crate) opening: u32,
+    pub(crate) tariff: u64,
+    pub(crate) opening: u64,
 }
 
 /// Every stored session.
-pub(crate) const SESSIONS: [Session; 23] = [
+pub(crate) const SESSIONS: [Session; 25] = [
     Session {
         name: "run-of-eight",
         tariff: 2,
@@ -57,6 +57,16 @@ pub(crate) const SESSIONS: [Session; 23] = [
     Session {
         name: "altered-not-ascertained",
         tariff: 2,
+        opening: 0,
+    },
+    Session {
+        name: "absent-later-three",
+        tariff: 2,
+        opening: 9_132,
+    },
+    Session {
+        name: "every-event",
+        tariff: 1,
         opening: 0,
     },
     Session {

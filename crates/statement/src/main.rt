@@ -1,8 +1,12 @@
 // The statement of a text of events: the text comes by standard input, the page goes to standard output.
-// Arguments: the tariff's number and the opening day, 1 and 0 where they are absent.
+// Arguments: the tariff's number and the opening day, 1 and 0 where they are absent; or --help.
 #![tactic(auto)]
 
+mod arguments;
+
 use anyhow::anyhow;
+use arguments::{Argument, Asked, USAGE, asked_by, is_help};
+use statements::refused::Refused;
 use statements::statement::statement;
 use std::env;
 use std::io::{Read, Write};
@@ -14,53 +18,51 @@ const ROOM: usize = 640_000;
 /// One byte more than a text may have: an input that is too long is seen to be, and refused, and not read to its end.
 const MOST: u64 = 65_537;
 
-/// What the arguments ask for; a tariff goes by its number, as in the office.
-#[derive(Clone, Copy)]
-struct Asked {
-    tariff: u32,
-    opening: u32,
+/// Question 2 asks of two arguments: it is told of the one that was answered no.
+fn told(refused: Refused, asked: Asked) -> anyhow::Error {
+    match refused {
+        Refused::Figures if !(1..=4).contains(&asked.tariff) => {
+            anyhow!(
+                "refused by question 2: {}, not '{}'",
+                Argument::Tariff,
+                asked.tariff
+            )
+        }
+        Refused::Figures => {
+            anyhow!(
+                "refused by question 2: {}, not '{}'",
+                Argument::Opening,
+                asked.opening
+            )
+        }
+        _ => refused.into(),
+    }
 }
 
-fn figure(word: &str) -> anyhow::Result<u32> {
-    word.parse::<u32>().map_err(|_| {
-        anyhow!("an argument is no figure; they are the tariff's number and the opening day")
-    })
-}
-
-fn arguments(rt: &HostRuntime) -> anyhow::Result<Asked> {
-    let mut asked = Asked {
-        tariff: 1,
-        opening: 0,
-    };
-    let mut words = env::args(rt)?;
-    let _ = words.next();
-    if let Some(word) = words.next() {
-        asked.tariff = figure(word.as_str())?;
-    }
-    if let Some(word) = words.next() {
-        asked.opening = figure(word.as_str())?;
-    }
-    if words.next().is_some() {
-        return Err(anyhow!(
-            "there are at most two arguments, the tariff's number and the opening day"
-        ));
-    }
-    Ok(asked)
-}
-
-fn run(rt: &HostRuntime) -> anyhow::Result<()> {
-    let asked = arguments(rt)?;
+fn write_page(rt: &HostRuntime, asked: Asked) -> anyhow::Result<()> {
     let mut text = Vec::new(rt.alloc());
     rt.stdin().take(MOST).read_to_end(&mut text)?;
     let mut page = vec![in rt.alloc(); 0u8; ROOM]?;
-    let bytes = statement(
+    match statement(
         asked.tariff,
         asked.opening,
         text.as_slice(),
         page.as_mut_slice(),
-    )?;
-    rt.stdout().write_all(&page.as_slice()[..bytes])?;
+    ) {
+        Ok(bytes) => rt.stdout().write_all(&page.as_slice()[..bytes])?,
+        Err(refused) => return Err(told(refused, asked)),
+    }
     Ok(())
+}
+
+fn run(rt: &HostRuntime) -> anyhow::Result<()> {
+    // the first word is the program's name
+    let words: Vec<String> = env::args(rt)?.skip(1).collect(rt.alloc())?;
+    if words.iter().any(|word| is_help(word.as_str())) {
+        rt.stdout().write_all(USAGE.as_bytes())?;
+        return Ok(());
+    }
+    write_page(rt, asked_by(words.as_slice())?)
 }
 
 fn main(rt: HostRuntime) -> ExitCode {

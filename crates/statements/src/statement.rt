@@ -58,7 +58,7 @@ fn changeover() -> Result<Changeover<Plain, ByDemand>, OutOfLimits>
 /// The statement of a text under the tariff of this number, by which the office's C program names it; a refused one leaves
 /// anything on the page.
 fn statement_numbered(
-    tariff: u32,
+    tariff: u64,
     opening: u64,
     text: &[u8],
     page: &mut [u8],
@@ -74,14 +74,15 @@ fn statement_numbered(
     }
 }
 
-/// The statement of a text under the tariff of this number, for an account that opens on this day: the bytes of its
-/// result. A refused one leaves zeros.
-pub fn statement(tariff: u32, opening: u32, text: &[u8], page: &mut [u8]) -> Result<usize, Refused>
+/// The statement of a text under the tariff of this number, 1 to 4, for an account that opens on this day, 0 to 18,262: the
+/// bytes of its result. A refused one leaves zeros. The numbers are 64 bits wide, as office programs hold them, so that
+/// none is cut to one in limits.
+pub fn statement(tariff: u64, opening: u64, text: &[u8], page: &mut [u8]) -> Result<usize, Refused>
     ensures after { StatedFor tariff opening text.now page.old page.new (number_of result) (value_of result) }
     ensures law { number_of result ≡ 0 → LawfulPage (numbered tariff) (opened_on opening) text.now page.new }
     ensures within { IfOk result (λ bytes. bytes ≤ length page.new) }
 {
-    let result = statement_numbered(tariff, opening as u64, text, page);
+    let result = statement_numbered(tariff, opening, text, page);
     if result.is_err() {
         page.fill(0);
     }

@@ -3,3 +3,4 @@ pub mod Asked
 pub mod Limits
 pub mod Spans
 pub mod Orders
+pub mod Totals

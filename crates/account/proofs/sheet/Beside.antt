@@ -4,7 +4,7 @@ use Rattle.std.proofs.lemmas.Bool.{cond-false, leb-true, leb-false}
 use Rattle.rules.specs.Subject.{Period, Tariff, Finding, Method, day_weight, peak_weight}
 use Rattle.rules.specs.Laid.{laid, with_standing, in_span, rewrites_sort, rewrites, rewritten, corrected}
 use Rattle.rules.specs.Shown as show
-use Rattle.rules.specs.Machine.{rewritten_row, relay, posts}
+use Rattle.rules.specs.Machine.{rewritten_row, relaid, posts}
 use Rattle.rules.proofs.Runs.{of_cond}
 
 module _ (f : Finding) where
@@ -128,38 +128,38 @@ module _ (f : Finding) where
         ∙ rewritten_between xs (corrected f m (length xs) 0 0 ys) zs a (λ k. omega (arith, b k))
 
     module _ (t : Tariff) where
-      relay_before : (i V W : ℕ) (xs ys : List show.Row) → i + length xs ≤ f.first → relay t f m i V W (xs ++ ys) ≡ xs ++ relay t f m (i + length xs) V W ys
-      unfolding relay
-      relay_before i V W [] ys h = let e : i ≡ i + 0 = omega arith in ap (λ j. relay t f m j V W ys) e
-      relay_before i V W (x ∷ xs) ys h =
+      relaid_before : (i V W : ℕ) (xs ys : List show.Row) → i + length xs ≤ f.first → relaid t f m i V W (xs ++ ys) ≡ xs ++ relaid t f m (i + length xs) V W ys
+      unfolding relaid
+      relaid_before i V W [] ys h = let e : i ≡ i + 0 = omega arith in ap (λ j. relaid t f m j V W ys) e
+      relaid_before i V W (x ∷ xs) ys h =
           cond-false (rewrites f i x.period) _ _ (out i x.period (before_span i (omega arith)))
-          ∙ ap (λ ps. x ∷ ps) (relay_before (suc i) V W xs ys (omega arith))
-          ∙ ap (λ j. x ∷ (xs ++ relay t f m j V W ys)) (shifted i (length xs))
+          ∙ ap (λ ps. x ∷ ps) (relaid_before (suc i) V W xs ys (omega arith))
+          ∙ ap (λ j. x ∷ (xs ++ relaid t f m j V W ys)) (shifted i (length xs))
 
-      relay_past : (i V W : ℕ) (zs : List show.Row) → (1 ≤ length zs → f.last < i) → relay t f m i V W zs ≡ zs
-      unfolding relay
-      relay_past i V W [] h = refl
-      relay_past i V W (z ∷ zs) h =
+      relaid_past : (i V W : ℕ) (zs : List show.Row) → (1 ≤ length zs → f.last < i) → relaid t f m i V W zs ≡ zs
+      unfolding relaid
+      relaid_past i V W [] h = refl
+      relaid_past i V W (z ∷ zs) h =
           cond-false (rewrites f i z.period) _ _ (out i z.period (past_span i (h (omega arith))))
-          ∙ ap (λ ps. z ∷ ps) (relay_past (suc i) V W zs (λ k. omega (arith, h (omega arith))))
+          ∙ ap (λ ps. z ∷ ps) (relaid_past (suc i) V W zs (λ k. omega (arith, h (omega arith))))
 
-      relay_up : (i V W : ℕ) (ys zs : List show.Row) → (1 ≤ length zs → f.last < i + length ys) → relay t f m i V W (ys ++ zs) ≡ relay t f m i V W ys ++ zs
-      unfolding relay
-      relay_up i V W [] zs h = relay_past i V W zs (λ k. omega (arith, h k))
-      relay_up i V W (y ∷ ys) zs h =
+      relaid_up : (i V W : ℕ) (ys zs : List show.Row) → (1 ≤ length zs → f.last < i + length ys) → relaid t f m i V W (ys ++ zs) ≡ relaid t f m i V W ys ++ zs
+      unfolding relaid
+      relaid_up i V W [] zs h = relaid_past i V W zs (λ k. omega (arith, h k))
+      relaid_up i V W (y ∷ ys) zs h =
           let a = rewritten_row t m V W y in
           let V' = V + day_weight m y.period in
           let W' = W + peak_weight m y.period in
-          let inside : relay t f m (suc i) V' W' (ys ++ zs) ≡ relay t f m (suc i) V' W' ys ++ zs = relay_up (suc i) V' W' ys zs (λ k. omega (arith, h k)) in
-          let over : relay t f m (suc i) V W (ys ++ zs) ≡ relay t f m (suc i) V W ys ++ zs = relay_up (suc i) V W ys zs (λ k. omega (arith, h k)) in
+          let inside : relaid t f m (suc i) V' W' (ys ++ zs) ≡ relaid t f m (suc i) V' W' ys ++ zs = relaid_up (suc i) V' W' ys zs (λ k. omega (arith, h k)) in
+          let over : relaid t f m (suc i) V W (ys ++ zs) ≡ relaid t f m (suc i) V W ys ++ zs = relaid_up (suc i) V W ys zs (λ k. omega (arith, h k)) in
           ap₂ (λ p q. cond (rewrites f i y.period) (a ∷ p) (y ∷ q)) inside over ∙ sym (of_cond (λ ps. ps ++ zs) (rewrites f i y.period) refl refl)
 
-      pub relay_between : (xs ys zs : List show.Row) → length xs ≤ f.first → (1 ≤ length zs → f.last < length xs + length ys) → relay t f m 0 0 0 (xs ++ (ys ++ zs)) ≡ xs ++ (relay t f m (length xs) 0 0 ys ++ zs)
-      relay_between xs ys zs a b =
+      pub relaid_between : (xs ys zs : List show.Row) → length xs ≤ f.first → (1 ≤ length zs → f.last < length xs + length ys) → relaid t f m 0 0 0 (xs ++ (ys ++ zs)) ≡ xs ++ (relaid t f m (length xs) 0 0 ys ++ zs)
+      relaid_between xs ys zs a b =
           let e : 0 + length xs ≡ length xs = omega arith in
-          relay_before 0 0 0 xs (ys ++ zs) (omega arith)
-          ∙ ap (λ j. xs ++ relay t f m j 0 0 (ys ++ zs)) e
-          ∙ ap (λ ps. xs ++ ps) (relay_up (length xs) 0 0 ys zs b)
+          relaid_before 0 0 0 xs (ys ++ zs) (omega arith)
+          ∙ ap (λ j. xs ++ relaid t f m j 0 0 (ys ++ zs)) e
+          ∙ ap (λ ps. xs ++ ps) (relaid_up (length xs) 0 0 ys zs b)
 
       module _ (hold : ℕ) where
         posts_before : (i V W : ℕ) (xs ys : List show.Row) → i + length xs ≤ f.first → posts t f m hold i V W (xs ++ ys) ≡ posts t f m hold (i + length xs) V W ys

@@ -5,11 +5,11 @@ use Rattle.std.proofs.lemmas.List.{take-append-drop, length-take-le, length-drop
 use Rattle.rules.specs.Subject.{Period, Tariff, Finding, Method}
 use Rattle.rules.specs.Laid.{in_span, rewrites_sort, rewrites, rewritten, corrected}
 use Rattle.rules.specs.Questions.{of_sort, every, sort_fits}
-use Rattle.rules.specs.Machine.{period_of, relay, posts}
+use Rattle.rules.specs.Machine.{period_of, relaid, posts}
 use Rattle.figures.specs.View.{seen, period_seen}
 use Rattle.figures.specs.declared.row.Row.{Row}
 use Rattle.account.specs.Rows.{periods, span_start, span_end, covered}
-use Rattle.account.proofs.sheet.Beside.{within_span, by_sort, rewritten_between, asked_between, relay_between, posts_between}
+use Rattle.account.proofs.sheet.Beside.{within_span, by_sort, rewritten_between, asked_between, relaid_between, posts_between}
 use Rattle.account.proofs.sheet.Sorts.{every_between}
 
 module _ (f : Finding) (rows : List Row) where
@@ -99,11 +99,11 @@ module _ (f : Finding) (rows : List Row) where
         ∙ asked_between f m (periods ahead) (periods (covered f rows)) (periods past) periods_before periods_after
         ∙ ap (λ j. rewritten f j (corrected f m j 0 0 (periods (covered f rows)))) (length-periods ahead ∙ length-ahead)
 
-    pub relay_covered : (t : Tariff) → relay t f m 0 0 0 (map seen rows) ≡ map seen ahead ++ (relay t f m start 0 0 (map seen (covered f rows)) ++ map seen past)
-    relay_covered t =
-        ap (relay t f m 0 0 0) seen_parted
-        ∙ relay_between f m t (map seen ahead) (map seen (covered f rows)) (map seen past) seen_before seen_after
-        ∙ ap (λ j. map seen ahead ++ (relay t f m j 0 0 (map seen (covered f rows)) ++ map seen past)) (length-seen ahead ∙ length-ahead)
+    pub relaid_covered : (t : Tariff) → relaid t f m 0 0 0 (map seen rows) ≡ map seen ahead ++ (relaid t f m start 0 0 (map seen (covered f rows)) ++ map seen past)
+    relaid_covered t =
+        ap (relaid t f m 0 0 0) seen_parted
+        ∙ relaid_between f m t (map seen ahead) (map seen (covered f rows)) (map seen past) seen_before seen_after
+        ∙ ap (λ j. map seen ahead ++ (relaid t f m j 0 0 (map seen (covered f rows)) ++ map seen past)) (length-seen ahead ∙ length-ahead)
 
     pub posts_covered : (t : Tariff) (hold : ℕ) → posts t f m hold 0 0 0 (map seen rows) ≡ posts t f m hold start 0 0 (map seen (covered f rows))
     posts_covered t hold =

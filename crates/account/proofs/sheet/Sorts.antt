@@ -1,13 +1,23 @@
--- The sorts of rows beside a span are not asked. Assumes nothing.
+-- The sorts of rows: those beside a span are not asked, and those that are rewritten have energy. Assumes nothing.
 use Rattle.std.proofs.Common.{◌≡◌, ℕ, suc, ◌+◌, ◌<◌, ◌≤◌, true, not, ◌&&◌, ◌||◌, List, [], ◌∷◌, ◌++◌, length, sym, refl, ap, ◌∙◌, arith}
+use Rattle.std.specs.Prelude.{◌≢◌}
 use Rattle.std.specs.List.{list_all}
-use Rattle.rules.specs.Subject.{Period, Finding}
-use Rattle.rules.specs.Laid.{in_span}
+use Rattle.std.proofs.lemmas.Bool.{false≢true}
+use Rattle.rules.specs.Subject.{Sort, no_energy, is_read, is_estimated, Period, Cause, absent, under, over, stopped, altered, Finding}
+use Rattle.rules.specs.Laid.{in_span, rewrites_sort}
 use Rattle.rules.specs.Questions.{of_sort, every, sort_fits}
 use Rattle.figures.specs.View.{period_seen}
 use Rattle.figures.specs.declared.row.Row.{Row}
 use Rattle.account.specs.Rows.{periods}
 use Rattle.account.proofs.sheet.Beside.{before_span, past_span, shifted}
+
+-- a correction rewrites no row without energy: of the sorts that its cause covers, the estimated or the read rows
+pub has_energy : (c : Cause) (s : Sort) → of_sort c s ≡ true → rewrites_sort c s ≡ true → s ≢ no_energy
+has_energy absent s fits rewritten e = false≢true (ap is_estimated (sym e) ∙ rewritten)
+has_energy under s fits rewritten e = false≢true (ap is_read (sym e) ∙ fits)
+has_energy over s fits rewritten e = false≢true (ap is_read (sym e) ∙ fits)
+has_energy stopped s fits rewritten e = false≢true (ap is_read (sym e) ∙ fits)
+has_energy altered s fits rewritten e = false≢true (ap is_read (sym e) ∙ fits)
 
 module _ (f : Finding) where
   every_before : (i : ℕ) (xs ys : List Period) → i + length xs ≤ f.first → every (sort_fits f) i (xs ++ ys) ≡ every (sort_fits f) (i + length xs) ys

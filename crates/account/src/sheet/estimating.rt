@@ -9,11 +9,14 @@ ghost use Rattle.account.specs.Rows.{periods};
 use crate::sheet::laying::alone;
 use crate::sheet::relaying::restate;
 use figures::dates::Term;
-use figures::row::{BLANK, Row, Sort};
+use figures::money::Charge;
+use figures::reported::Cents;
+use figures::row::{Row, Sort};
+use figures::units::ZEROS;
 use method::method::Method;
 use tariff::tariff::{Tariff, charged};
 
-/// How many unmetered rows stand at the end, up to six: whether a row is late in its run, no more tell.
+/// How many unmetered rows stand at the end, counted up to six: a row with so many before it is late in its run.
 pub(crate) fn run(rows: &[Row]) -> usize
     ensures { result ≡ min 6 (run_of (periods rows.now)) }
 {
@@ -31,7 +34,9 @@ pub(crate) fn blank(term: Term, sort: Sort) -> Row
     Row {
         term,
         sort,
-        ..BLANK
+        recorded: ZEROS,
+        standing: ZEROS,
+        charge: Charge { figure: Cents(0) },
     }
 }
 
@@ -55,9 +60,9 @@ pub(crate) fn without_reading<T: Tariff, M: Method>(
     ensures same { T.Tariff.meaning tariff.new ≡ T.Tariff.meaning tariff.old }
 {
     if late {
-        let row = blank(term, Sort::NoEnergy);
-        let charge = charged(tariff, term.last, row.standing);
-        return Row { charge, ..row };
+        let mut row = blank(term, Sort::NoEnergy);
+        row.charge = charged(tariff, term.last, row.standing);
+        return row;
     }
     let row = blank(term, Sort::Estimated);
     restate(tariff, m, alone(m, &row), &row)

@@ -9,11 +9,11 @@ pub returns-in_err-write : goal.returns-in_err-write
 returns-in_err-write c =
     risen c.from_residual-in_err-write.ensures.0
     (spelled_as (line_joined (c.args.letter ∷ []) (map text_of c.args.fields.now))
-    (c.in_ok-push.ensures
+    (c.in_ok-push.ensures.after
     then item_stopped (λ t. 44 ∷ t) text_of _ c.loop-field.field-index _ c.loop-field-test.true (10 ∷ []) c.loop-field.invariant c.in_err-write.ensures))
 
 pub returns : goal.returns
 returns c =
     let all : take c.loop-field.field-index c.args.fields.now ≡ c.args.fields.now = take_all c.loop-field.field-index c.args.fields.now c.loop-field-test.false in
     spelled_as (line_joined (c.args.letter ∷ []) (map text_of c.args.fields.now))
-    (c.in_ok-push.ensures then ((rw all at c.loop-field.invariant) then c.push-2.ensures))
+    (c.in_ok-push.ensures.after then ((rw all at c.loop-field.invariant) then c.push-2.ensures.after))
