@@ -191,7 +191,7 @@ fn compare(folder: &str) {
     let texts = stored(folder);
     for text in &texts {
         for tariff in 0..=5 {
-            for opening in [0, 300, 364, 18_262, 18_263, u32::MAX.into()] {
+            for opening in [0, 300, 364, 18_262, 18_263, 1 << 32, u64::MAX] {
                 comparison.text(&mut dice, tariff, opening, text);
             }
         }
@@ -203,7 +203,7 @@ fn compare(folder: &str) {
             comparison.text(&mut dice, tariff, 0, &damaged);
         }
     }
-    for tariff in [0, 1, 2, 3, 4, 5, u32::MAX.into()] {
+    for tariff in [0, 1, 2, 3, 4, 5, (1 << 32) + 1, u64::MAX] {
         for bytes in [0, 1, LONGEST - 1, LONGEST, LONGEST + 1, LONGEST + 1_000] {
             for byte in [b'\n', b'T', 0, 255] {
                 comparison.text(&mut dice, tariff, 0, &vec![byte; bytes]);
