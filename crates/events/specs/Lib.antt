@@ -6,8 +6,8 @@ pub mod Reads
 pub mod Corrections
 pub mod Events
 pub mod LinesLeft
-pub mod FirstField
 pub mod FieldsLeft
+pub mod Unread
 pub mod Carried
 pub mod Writing
 pub mod RoundTrip
