@@ -15,12 +15,7 @@ use Rattle.events.specs.Reads.{lawful, field, unused}
 use Rattle.std.specs.Result.{result_and}
 use Rattle.events.specs.FieldsLeft.{fields_from}
 use Rattle.events.specs.Lines.{lines, fields, placed}
-
--- the rest of a text behind the first b, where there is one
-abbrev pub Behind : ℕ → List ℕ → Option (Bor (List ℕ)) → Type 0
-Behind b text rest = MatchOption rest
-    (position_or_len (λ c. eqb c b) text ≡ length text)
-    (λ r. (position_or_len (λ c. eqb c b) text < length text) × (r.now ≡ after_first (λ c. eqb c b) text))
+use Rattle.events.specs.Parted.{Behind}
 
 onto_line : (c : ℕ) (text : List ℕ) (n : ℕ) → lines text ≡ take n text ∷ lines (drop (n + 1) text) → onto_first c (lines text) ≡ take (1 + n) (c ∷ text) ∷ lines (drop (1 + n + 1) (c ∷ text))
 onto_line c text n e = simp (one-add, add-one) (ap (onto_first c) (simp add-one at e))

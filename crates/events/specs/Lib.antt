@@ -1,5 +1,6 @@
 pub mod Faults
 pub mod Lines
+pub mod Parted
 pub mod Figures
 pub mod Letters
 pub mod Reads

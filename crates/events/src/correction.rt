@@ -56,6 +56,7 @@ fn read_basis(fields: &mut LineFields<'_>) -> Result<Basis, ReaderFault>
 
 /// The hold, the finding and the method. The fields are counted first, since those that the method does not use are read to
 /// the line's end, however many there are.
+#[inline(never)]
 pub(crate) fn correct_parts(mut fields: LineFields<'_>) -> Result<(u64, Finding, Basis), ReaderFault>
     ensures value { event_in c_line (unread fields.entry) ≡ made (λ p. Correct p.0 p.1 p.2) result }
 {

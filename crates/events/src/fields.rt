@@ -1,7 +1,8 @@
 // The fields of a line, borrowed from it, each with its column.
-ghost use Rattle.std.specs.Prelude.{◌≡◌, ◌+◌, ◌^◌, ◌<◌, ◌==◌, length, MatchOption};
+ghost use Rattle.std.specs.Prelude.{◌≡◌, ◌+◌, ◌^◌, ◌<◌, ◌==◌, length};
 ghost use Rattle.std.specs.Option.{ForSome};
-ghost use Rattle.std.specs.List.{before_first, after_first, position_or_len, count_by};
+ghost use Rattle.std.specs.List.{before_first, count_by};
+ghost use Rattle.events.specs.Parted.{Behind};
 
 /// A field of a line, and the column at which it begins, counted in bytes from 1.
 #[derive(Clone, Copy)]
@@ -25,9 +26,7 @@ pub struct Fields<'a> {
 #[inline(always)]
 fn split_at_comma(text: &[u8]) -> (&[u8], Option<&[u8]>)
     ensures before { result.0.now ≡ before_first (λ b. b == 44) text.now }
-    ensures after { MatchOption result.1
-        (position_or_len (λ b. b == 44) text.now ≡ length text.now)
-        (λ rest. (position_or_len (λ b. b == 44) text.now < length text.now) × (rest.now ≡ after_first (λ b. b == 44) text.now)) }
+    ensures after { Behind 44 text.now result.1 }
 {
     match text.iter().position(|byte| *byte == b',') {
         Some(end) => (&text[..end], Some(&text[end + 1..])),
