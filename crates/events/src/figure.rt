@@ -10,20 +10,17 @@ impl FromField for u64 {
 
     #[inline(always)]
     fn from_field(field: &[u8]) -> Option<u64> {
-        if field.is_empty() || field.len() > 13 {
-            return None;
-        }
-        if field[0] == b'0' && field.len() > 1 {
-            return None;
-        }
         let mut number = 0;
-        for byte in field {
-            if !byte.is_ascii_digit() {
+        for (place, byte) in field.iter().enumerate() {
+            if place == 13 || !byte.is_ascii_digit() {
                 return None;
             }
             number = number * 10 + u64::from(*byte - b'0');
         }
-        Some(number)
+        match field {
+            [] | [b'0', _, ..] => None,
+            _ => Some(number),
+        }
     }
 }
 

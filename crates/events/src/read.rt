@@ -56,7 +56,7 @@ fn read_hand_back(rest: &[u8]) -> Result<Event, ReaderFault>
 }
 
 /// The hold, the last day and the reading.
-#[inline(always)]
+#[inline(never)]
 fn bill_parts(fields: &mut LineFields<'_>) -> Result<(u64, u64, Reading), ReaderFault>
     ensures value { event b_line (unread fields.old) ≡ made (λ p. Bill p.0 p.1 p.2) result }
     ensures left { Handed 5 result fields.old fields.new }

@@ -10,7 +10,7 @@ room v i small more =
     omega arith
 
 pub overflow_mul-number : goal.overflow_mul-number
-overflow_mul-number c = omega (arith, room _ _ c.loop-byte.invariant.small (omega arith))
+overflow_mul-number c = omega (arith, room _ _ c.loop-place.invariant.small (omega arith))
 
 pub overflow_add-number : goal.overflow_add-number
-overflow_add-number c = omega (arith, room _ _ c.loop-byte.invariant.small (omega arith))
+overflow_add-number c = omega (arith, room _ _ c.loop-place.invariant.small (omega arith))
