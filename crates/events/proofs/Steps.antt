@@ -1,13 +1,10 @@
 -- One line or field split off a text.
-use Rattle.std.proofs.Common.{IsSome, Result, Ok, Err, ltb, ◌≡◌, ℕ, suc, ◌+◌, ◌<◌, ◌≤◌, Bool, true, false, cond, eqb, not, List, [], ◌∷◌, length, take, drop, Some, None, Option, MatchOption, Bor, refl, sym, ap, ◌∙◌, one-add, add-one, arith}
+use Rattle.std.proofs.Common.{IsSome, Result, Ok, Err, ◌≡◌, ℕ, suc, ◌+◌, ◌<◌, true, false, cond, eqb, not, List, [], ◌∷◌, length, take, drop, Some, None, Option, Bor, refl, sym, ap, ◌∙◌, one-add, add-one, arith}
 use Rattle.std.specs.Option.{unwrap_or}
-use Rattle.std.specs.Slice.{IsGetRangeResult}
 use Rattle.std.specs.List.{onto_first, count_by, position_or_len, before_first, after_first, All}
-use Rattle.std.proofs.lemmas.Bool.{ltb-true, ltb-false}
-use Rattle.std.proofs.lemmas.List.{drop_all, take_all, take_rest, length-take-le}
-use Rattle.std.proofs.lemmas.List.Sums.{prefix_len-le-length, fails_before_first}
+use Rattle.std.proofs.lemmas.List.{drop_all, take_all}
+use Rattle.std.proofs.lemmas.List.Sums.{fails_before_first}
 use Rattle.std.proofs.lemmas.List.Splits.{slice_split_none, slice_split_first, length-slice_split}
-use Rattle.events.specs.declared.fault.ReaderFault.TheVariants.{Field}
 use Rattle.events.specs.declared.fault.ReaderFault.{ReaderFault}
 use Rattle.events.specs.declared.letters.Unused.{Unused}
 use Rattle.events.specs.Letters.{unused_of}

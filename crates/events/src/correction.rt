@@ -7,8 +7,8 @@ ghost use Rattle.events.specs.Unread.{unread, with_unread, made};
 
 use crate::event::Basis;
 use crate::fault::ReaderFault;
-use crate::line_fields::LineFields;
 use crate::letters::MethodName;
+use crate::line_fields::LineFields;
 use method::finding::{Finding, Span};
 
 fn read_finding(fields: &mut LineFields<'_>) -> Result<Finding, ReaderFault>
@@ -57,7 +57,9 @@ fn read_basis(fields: &mut LineFields<'_>) -> Result<Basis, ReaderFault>
 /// The hold, the finding and the method. The fields are counted first, since those that the method does not use are read to
 /// the line's end, however many there are.
 #[inline(never)]
-pub(crate) fn correct_parts(mut fields: LineFields<'_>) -> Result<(u64, Finding, Basis), ReaderFault>
+pub(crate) fn correct_parts(
+    mut fields: LineFields<'_>,
+) -> Result<(u64, Finding, Basis), ReaderFault>
     ensures value { event_in c_line (unread fields.entry) ≡ made (λ p. Correct p.0 p.1 p.2) result }
 {
     fields.require_count(13)?;

@@ -23,7 +23,7 @@ fn split_at_first(text: &[u8], mark: u8) -> (&[u8], Option<&[u8]>)
     }
 }
 
-/// Hands out the lines of a text.
+/// Hands out the lines of a text; the fields of a line are handed out by [`Fields`](crate::fields::Fields).
 #[derive(Drop)]
 pub struct Reader<'a> {
     rest: &'a [u8],

@@ -1,5 +1,5 @@
 // Events read from lines. All is inlined where a line is served, so that an event, which may be large, is not stored on the way;
-// only the parts of an estimate and of a correction are read by calls, since the whole would grow too large to be inlined.
+// only the parts of a bill, an estimate and a correction are read by calls, since the whole would grow too large to be inlined.
 ghost use Rattle.std.specs.Prelude.{◌≡◌, ◌≤◌, length, IfOk};
 ghost use Rattle.events.specs.declared.event.Event.TheVariants.{Take, HandBack, Bill, Estimate, Correct, Pay};
 ghost use Rattle.events.specs.Lines.{fields as fields_in, placed};
