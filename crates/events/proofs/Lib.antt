@@ -1,5 +1,5 @@
 pub mod Steps
-pub mod FirstField
+pub mod Columns
 pub mod Begins
 pub mod Digits
 pub mod Joined

@@ -30,6 +30,7 @@ use Rattle.events.specs.Events.{Form, c_line, fields_after, event, event_in, eve
 use Rattle.events.specs.Carried.{is_short, cause_letter, side_letter, known_letter, finding_fields, basis_fields, fields_of, line_of, is_carried}
 use Rattle.events.specs.RoundTrip.{ReadsAs}
 use Rattle.events.proofs.Steps.{length-placed}
+use Rattle.events.proofs.Columns.{after}
 use Rattle.events.proofs.Digits.{figure_read, figure_printed}
 use Rattle.events.proofs.Spelled.{six_fields}
 
@@ -61,10 +62,6 @@ one_line (c ∷ cs) w =
     let first : 44 ≤ c = w 0 0 (omega arith) in
     let later : All (λ d. 44 ≤ d) cs = λ k d inside. w (suc k) d (omega arith) in
     cond-false _ _ _ (ne_eqb c 10 (λ e. omega arith)) ∙ ap (onto_first c) (one_line cs later)
-
-abbrev after : List (List ℕ) → ℕ
-after [] = 0
-after (f ∷ fs) = length f + 1 + after fs
 
 joined_length : (f : List ℕ) (fs : List (List ℕ)) → length (join_with_byte 44 (f ∷ fs)) ≡ length f + after fs
 joined_length f [] = omega arith

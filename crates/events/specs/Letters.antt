@@ -13,6 +13,10 @@ abbrev pub named : {X : Type 0} → List (ℕ × X) → ℕ → Option X
 named [] c = None
 named (e ∷ es) c = cond (c == e.0) (Some e.1) (named es c)
 
+-- the byte of a field of one byte
+abbrev pub only : List ℕ → Option ℕ
+only f = cond (length f == 1) (Some (slice_index f 0)) None
+
 -- what a field of one byte stands for
 abbrev pub one_of : {X : Type 0} → List (ℕ × X) → List ℕ → Option X
 one_of table f = cond (length f == 1) (named table (slice_index f 0)) None

@@ -1,13 +1,14 @@
 pub mod Faults
 pub mod Lines
+pub mod Parted
 pub mod Figures
 pub mod Letters
 pub mod Reads
 pub mod Corrections
 pub mod Events
 pub mod LinesLeft
-pub mod FirstField
 pub mod FieldsLeft
+pub mod Unread
 pub mod Carried
 pub mod Writing
 pub mod RoundTrip

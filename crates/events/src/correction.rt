@@ -3,16 +3,16 @@ ghost use Rattle.std.specs.Prelude.{◌≡◌};
 ghost use Rattle.events.specs.declared.event.Event.TheVariants.{Correct};
 ghost use Rattle.events.specs.Events.{c_line, event_in};
 ghost use Rattle.events.specs.Corrections.{finding_in, basis_in};
-ghost use Rattle.events.specs.FieldsLeft.{fields_left, with_left, made};
+ghost use Rattle.events.specs.Unread.{unread, with_unread, made};
 
 use crate::event::Basis;
 use crate::fault::ReaderFault;
-use crate::fields::Fields;
 use crate::letters::MethodName;
+use crate::line_fields::LineFields;
 use method::finding::{Finding, Span};
 
-fn read_finding(fields: &mut Fields<'_>) -> Result<Finding, ReaderFault>
-    ensures value { finding_in (fields_left fields.old) ≡ with_left result fields.new }
+fn read_finding(fields: &mut LineFields<'_>) -> Result<Finding, ReaderFault>
+    ensures value { finding_in (unread fields.old) ≡ with_unread result fields.new }
 {
     let cause = fields.parse()?;
     let side = fields.parse()?;
@@ -30,8 +30,8 @@ fn read_finding(fields: &mut Fields<'_>) -> Result<Finding, ReaderFault>
     })
 }
 
-fn read_basis(fields: &mut Fields<'_>) -> Result<Basis, ReaderFault>
-    ensures value { basis_in (fields_left fields.old) ≡ with_left result fields.new }
+fn read_basis(fields: &mut LineFields<'_>) -> Result<Basis, ReaderFault>
+    ensures value { basis_in (unread fields.old) ≡ with_unread result fields.new }
 {
     Ok(match fields.parse()? {
         MethodName::TestMeter => Basis::TestMeter {
@@ -56,8 +56,11 @@ fn read_basis(fields: &mut Fields<'_>) -> Result<Basis, ReaderFault>
 
 /// The hold, the finding and the method. The fields are counted first, since those that the method does not use are read to
 /// the line's end, however many there are.
-pub(crate) fn correct_parts(mut fields: Fields<'_>) -> Result<(u64, Finding, Basis), ReaderFault>
-    ensures value { event_in c_line (fields_left fields.entry) ≡ made (λ p. Correct p.0 p.1 p.2) result }
+#[inline(never)]
+pub(crate) fn correct_parts(
+    mut fields: LineFields<'_>,
+) -> Result<(u64, Finding, Basis), ReaderFault>
+    ensures value { event_in c_line (unread fields.entry) ≡ made (λ p. Correct p.0 p.1 p.2) result }
 {
     fields.require_count(13)?;
     let hold = fields.parse()?;

@@ -9,23 +9,17 @@ impl FromField for u64 {
     ghost held = { figure_of };
 
     #[inline(always)]
-    fn from_field(text: &[u8]) -> Option<(u64, usize)> {
+    fn from_field(field: &[u8]) -> Option<u64> {
         let mut number = 0;
-        let mut length = 0;
-        for byte in text {
-            if *byte == b',' {
-                break;
-            }
-            if length == 13 || !byte.is_ascii_digit() {
+        for (place, byte) in field.iter().enumerate() {
+            if place == 13 || !byte.is_ascii_digit() {
                 return None;
             }
             number = number * 10 + u64::from(*byte - b'0');
-            length += 1;
         }
-        match text {
-            [b'0', ..] if length > 1 => None,
-            _ if length == 0 => None,
-            _ => Some((number, length)),
+        match field {
+            [] | [b'0', _, ..] => None,
+            _ => Some(number),
         }
     }
 }
@@ -34,9 +28,8 @@ impl FromField for Kwh {
     ghost held = { kwh_of };
 
     #[inline(always)]
-    fn from_field(text: &[u8]) -> Option<(Kwh, usize)> {
-        let (number, length) = u64::from_field(text)?;
-        Some((Kwh(number), length))
+    fn from_field(field: &[u8]) -> Option<Kwh> {
+        Some(Kwh(u64::from_field(field)?))
     }
 }
 
@@ -44,9 +37,8 @@ impl FromField for Kva {
     ghost held = { kva_of };
 
     #[inline(always)]
-    fn from_field(text: &[u8]) -> Option<(Kva, usize)> {
-        let (number, length) = u64::from_field(text)?;
-        Some((Kva(number), length))
+    fn from_field(field: &[u8]) -> Option<Kva> {
+        Some(Kva(u64::from_field(field)?))
     }
 }
 
@@ -54,8 +46,7 @@ impl FromField for Cents {
     ghost held = { cents_of };
 
     #[inline(always)]
-    fn from_field(text: &[u8]) -> Option<(Cents, usize)> {
-        let (number, length) = u64::from_field(text)?;
-        Some((Cents(number), length))
+    fn from_field(field: &[u8]) -> Option<Cents> {
+        Some(Cents(u64::from_field(field)?))
     }
 }

@@ -1,7 +1,6 @@
 // The letters of fields, read and written, and the field that holds nothing but 0.
 ghost use Rattle.std.specs.Prelude.{◌≡◌};
-ghost use Rattle.events.specs.Letters.{cause_of, side_of, known_of, method_of, unused_of};
-ghost use Rattle.events.specs.FirstField.{first_field, only};
+ghost use Rattle.events.specs.Letters.{only, cause_of, side_of, known_of, method_of, unused_of};
 ghost use Rattle.events.specs.Carried.{cause_letter, side_letter, known_letter};
 
 use crate::field::FromField;
@@ -20,13 +19,12 @@ pub(crate) enum MethodName {
 #[derive(Clone, Copy)]
 pub(crate) struct Unused;
 
-/// The byte of the text's first field, if that field has one byte.
-fn letter(text: &[u8]) -> Option<u8>
-    ensures { result ≡ only (first_field text.now) }
+/// The byte of a field of one byte.
+fn letter(field: &[u8]) -> Option<u8>
+    ensures { result ≡ only field.now }
 {
-    match text {
-        [b',', ..] => None,
-        [byte] | [byte, b',', ..] => Some(*byte),
+    match field {
+        [byte] => Some(*byte),
         _ => None,
     }
 }
@@ -34,29 +32,27 @@ fn letter(text: &[u8]) -> Option<u8>
 impl FromField for Cause {
     ghost held = { cause_of };
 
-    fn from_field(text: &[u8]) -> Option<(Cause, usize)> {
-        let value = match letter(text)? {
+    fn from_field(field: &[u8]) -> Option<Cause> {
+        Some(match letter(field)? {
             b'A' => Cause::Absent,
             b'U' => Cause::Under,
             b'O' => Cause::Over,
             b'S' => Cause::Stopped,
             b'X' => Cause::Altered,
             _ => return None,
-        };
-        Some((value, 1))
+        })
     }
 }
 
 impl FromField for Side {
     ghost held = { side_of };
 
-    fn from_field(text: &[u8]) -> Option<(Side, usize)> {
-        let value = match letter(text)? {
+    fn from_field(field: &[u8]) -> Option<Side> {
+        Some(match letter(field)? {
             b'c' => Side::Consumer,
             b's' => Side::Supplier,
             _ => return None,
-        };
-        Some((value, 1))
+        })
     }
 }
 
@@ -64,40 +60,37 @@ impl FromField for Side {
 impl FromField for bool {
     ghost held = { known_of };
 
-    fn from_field(text: &[u8]) -> Option<(bool, usize)> {
-        let value = match letter(text)? {
+    fn from_field(field: &[u8]) -> Option<bool> {
+        Some(match letter(field)? {
             b'y' => true,
             b'n' => false,
             _ => return None,
-        };
-        Some((value, 1))
+        })
     }
 }
 
 impl FromField for MethodName {
     ghost held = { method_of };
 
-    fn from_field(text: &[u8]) -> Option<(MethodName, usize)> {
-        let value = match letter(text)? {
+    fn from_field(field: &[u8]) -> Option<MethodName> {
+        Some(match letter(field)? {
             b'M' => MethodName::TestMeter,
             b'P' => MethodName::PreviousThree,
             b'L' => MethodName::LaterThree,
             b'D' => MethodName::ContractDemand,
             _ => return None,
-        };
-        Some((value, 1))
+        })
     }
 }
 
 impl FromField for Unused {
     ghost held = { unused_of };
 
-    fn from_field(text: &[u8]) -> Option<(Unused, usize)> {
-        let value = match letter(text)? {
+    fn from_field(field: &[u8]) -> Option<Unused> {
+        Some(match letter(field)? {
             b'0' => Unused,
             _ => return None,
-        };
-        Some((value, 1))
+        })
     }
 }
 

@@ -7,13 +7,13 @@ mod correction;
 pub mod event;
 pub mod fault;
 mod field;
-mod fields;
+pub mod fields;
 mod figure;
 mod letters;
+mod line_fields;
 pub mod lines;
 mod read;
 pub mod unwritten;
-mod walk;
 mod write;
 
 pub use read::read_event;

@@ -1,8 +1,9 @@
 // A text's lines, borrowed from what was handed in.
-ghost use Rattle.std.specs.Prelude.{◌≡◌, ◌+◌, ◌<◌, ◌==◌, length, drop, MatchOption};
-ghost use Rattle.std.specs.List.{before_first, after_first, position_or_len};
+ghost use Rattle.std.specs.Prelude.{◌≡◌, ◌==◌};
+ghost use Rattle.std.specs.List.{before_first};
 ghost use Rattle.std.specs.Iterator.{YieldsFirstRef, item_count};
 ghost use Rattle.events.specs.Lines.{lines};
+ghost use Rattle.events.specs.Parted.{Behind};
 ghost use Rattle.events.specs.LinesLeft.{lines_left};
 
 use memchr::memchr;
@@ -10,9 +11,7 @@ use memchr::memchr;
 /// What stands before the first `mark`, and what after it, where there is one.
 fn split_at_first(text: &[u8], mark: u8) -> (&[u8], Option<&[u8]>)
     ensures before { result.0.now ≡ before_first (λ b. b == mark) text.now }
-    ensures after { MatchOption result.1
-        (position_or_len (λ b. b == mark) text.now ≡ length text.now)
-        (λ rest. (position_or_len (λ b. b == mark) text.now < length text.now) × (rest.now ≡ after_first (λ b. b == mark) text.now)) }
+    ensures after { Behind mark text.now result.1 }
 {
     // an empty line is not worth a call
     if text.first() == Some(&mark) {
@@ -24,7 +23,7 @@ fn split_at_first(text: &[u8], mark: u8) -> (&[u8], Option<&[u8]>)
     }
 }
 
-/// Hands out the lines of a text.
+/// Hands out the lines of a text; the fields of a line are handed out by [`Fields`](crate::fields::Fields).
 #[derive(Drop)]
 pub struct Reader<'a> {
     rest: &'a [u8],

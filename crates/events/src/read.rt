@@ -1,22 +1,22 @@
 // Events read from lines. All is inlined where a line is served, so that an event, which may be large, is not stored on the way;
-// only the parts of an estimate and of a correction are read by calls, since the whole would grow too large to be inlined.
+// only the parts of a bill, an estimate and a correction are read by calls, since the whole would grow too large to be inlined.
 ghost use Rattle.std.specs.Prelude.{◌≡◌, ◌≤◌, length, IfOk};
 ghost use Rattle.events.specs.declared.event.Event.TheVariants.{Take, HandBack, Bill, Estimate, Correct, Pay};
 ghost use Rattle.events.specs.Lines.{fields as fields_in, placed};
 ghost use Rattle.events.specs.Events.{t_line, h_line, b_line, e_line, c_line, p_line, event, event_in, event_from, event_of};
 ghost use Rattle.events.specs.RoundTrip.{IsLineOf};
-ghost use Rattle.events.specs.FieldsLeft.{fields_left, made, Handed};
+ghost use Rattle.events.specs.Unread.{unread, made, Handed};
 
 use crate::correction::correct_parts;
 use crate::event::Event;
 use crate::fault::ReaderFault;
-use crate::fields::Fields;
+use crate::line_fields::LineFields;
 use figures::reported::{Cents, Kva, Kwh, Reading};
 
 /// When, and for how long.
 #[inline(always)]
-fn take_parts(fields: &mut Fields<'_>) -> Result<(u64, u64), ReaderFault>
-    ensures value { event t_line (fields_left fields.old) ≡ made (λ p. Take p.0 p.1) result }
+fn take_parts(fields: &mut LineFields<'_>) -> Result<(u64, u64), ReaderFault>
+    ensures value { event t_line (unread fields.old) ≡ made (λ p. Take p.0 p.1) result }
     ensures left { Handed 2 result fields.old fields.new }
 {
     let moment = fields.parse()?;
@@ -29,7 +29,7 @@ fn read_take(rest: &[u8]) -> Result<Event, ReaderFault>
     requires { length rest.now ≤ 140 }
     ensures value { result ≡ event_in t_line (placed 3 (fields_in rest.now)) }
 {
-    let mut fields = Fields::new(rest);
+    let mut fields = LineFields::new(rest);
     let read = take_parts(&mut fields);
     let (moment, span) = fields.counted(rest, 2, read)?;
     Ok(Event::Take { moment, span })
@@ -37,8 +37,8 @@ fn read_take(rest: &[u8]) -> Result<Event, ReaderFault>
 
 /// The hold.
 #[inline(always)]
-fn hand_back_parts(fields: &mut Fields<'_>) -> Result<u64, ReaderFault>
-    ensures value { event h_line (fields_left fields.old) ≡ made (λ p. HandBack p) result }
+fn hand_back_parts(fields: &mut LineFields<'_>) -> Result<u64, ReaderFault>
+    ensures value { event h_line (unread fields.old) ≡ made (λ p. HandBack p) result }
     ensures left { Handed 1 result fields.old fields.new }
 {
     fields.parse()
@@ -49,16 +49,16 @@ fn read_hand_back(rest: &[u8]) -> Result<Event, ReaderFault>
     requires { length rest.now ≤ 140 }
     ensures value { result ≡ event_in h_line (placed 3 (fields_in rest.now)) }
 {
-    let mut fields = Fields::new(rest);
+    let mut fields = LineFields::new(rest);
     let read = hand_back_parts(&mut fields);
     let hold = fields.counted(rest, 1, read)?;
     Ok(Event::HandBack { hold })
 }
 
 /// The hold, the last day and the reading.
-#[inline(always)]
-fn bill_parts(fields: &mut Fields<'_>) -> Result<(u64, u64, Reading), ReaderFault>
-    ensures value { event b_line (fields_left fields.old) ≡ made (λ p. Bill p.0 p.1 p.2) result }
+#[inline(never)]
+fn bill_parts(fields: &mut LineFields<'_>) -> Result<(u64, u64, Reading), ReaderFault>
+    ensures value { event b_line (unread fields.old) ≡ made (λ p. Bill p.0 p.1 p.2) result }
     ensures left { Handed 5 result fields.old fields.new }
 {
     let hold = fields.parse()?;
@@ -75,7 +75,7 @@ fn read_bill(rest: &[u8]) -> Result<Event, ReaderFault>
     requires { length rest.now ≤ 140 }
     ensures value { result ≡ event_in b_line (placed 3 (fields_in rest.now)) }
 {
-    let mut fields = Fields::new(rest);
+    let mut fields = LineFields::new(rest);
     let read = bill_parts(&mut fields);
     let (hold, last, reading) = fields.counted(rest, 5, read)?;
     Ok(Event::Bill {
@@ -87,8 +87,8 @@ fn read_bill(rest: &[u8]) -> Result<Event, ReaderFault>
 
 /// The hold, the last day and the category.
 #[inline(never)]
-fn estimate_parts(fields: &mut Fields<'_>) -> Result<(u64, u64, Kwh, u64, Kva), ReaderFault>
-    ensures value { event e_line (fields_left fields.old) ≡ made (λ p. Estimate p.0 p.1 p.2 p.3 p.4) result }
+fn estimate_parts(fields: &mut LineFields<'_>) -> Result<(u64, u64, Kwh, u64, Kva), ReaderFault>
+    ensures value { event e_line (unread fields.old) ≡ made (λ p. Estimate p.0 p.1 p.2 p.3 p.4) result }
     ensures left { Handed 5 result fields.old fields.new }
 {
     let hold = fields.parse()?;
@@ -104,7 +104,7 @@ fn read_estimate(rest: &[u8]) -> Result<Event, ReaderFault>
     requires { length rest.now ≤ 140 }
     ensures value { result ≡ event_in e_line (placed 3 (fields_in rest.now)) }
 {
-    let mut fields = Fields::new(rest);
+    let mut fields = LineFields::new(rest);
     let read = estimate_parts(&mut fields);
     let (hold, last, figure, peak, demand) = fields.counted(rest, 5, read)?;
     Ok(Event::Estimate {
@@ -121,7 +121,7 @@ fn read_correct(rest: &[u8]) -> Result<Event, ReaderFault>
     requires { length rest.now ≤ 140 }
     ensures value { result ≡ event_in c_line (placed 3 (fields_in rest.now)) }
 {
-    let (hold, finding, basis) = correct_parts(Fields::new(rest))?;
+    let (hold, finding, basis) = correct_parts(LineFields::new(rest))?;
     Ok(Event::Correct {
         hold,
         finding,
@@ -131,8 +131,8 @@ fn read_correct(rest: &[u8]) -> Result<Event, ReaderFault>
 
 /// The hold and the cents.
 #[inline(always)]
-fn pay_parts(fields: &mut Fields<'_>) -> Result<(u64, Cents), ReaderFault>
-    ensures value { event p_line (fields_left fields.old) ≡ made (λ p. Pay p.0 p.1) result }
+fn pay_parts(fields: &mut LineFields<'_>) -> Result<(u64, Cents), ReaderFault>
+    ensures value { event p_line (unread fields.old) ≡ made (λ p. Pay p.0 p.1) result }
     ensures left { Handed 2 result fields.old fields.new }
 {
     let hold = fields.parse()?;
@@ -145,7 +145,7 @@ fn read_pay(rest: &[u8]) -> Result<Event, ReaderFault>
     requires { length rest.now ≤ 140 }
     ensures value { result ≡ event_in p_line (placed 3 (fields_in rest.now)) }
 {
-    let mut fields = Fields::new(rest);
+    let mut fields = LineFields::new(rest);
     let read = pay_parts(&mut fields);
     let (hold, cents) = fields.counted(rest, 2, read)?;
     Ok(Event::Pay { hold, cents })

@@ -22,7 +22,9 @@ fn show<T>(account: &Account<T>, page: &mut Page) -> Result<(), Full>
     sums(page, account.balance(), account.due())
 }
 
-/// Writes the result of a text for an account just opened; how many bytes it has, where it fits.
+/// Writes the result of a text for an account just opened; how many bytes it has, where it fits. A function for
+/// each tariff: all of them inlined into their one caller ran slower.
+#[inline(never)]
 pub(crate) fn write<T: Tariff>(
     account: &mut Account<T>,
     text: &[u8],

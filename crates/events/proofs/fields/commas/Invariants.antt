@@ -1,6 +1,6 @@
 use Rattle.std.proofs.Common.{◌≡◌, ◌+◌, ◌≤◌, ◌==◌, drop}
 use Rattle.std.specs.List.{count_by}
-use Rattle.events.proofs.walk.commas.Given as goal
+use Rattle.events.proofs.fields.commas.Given as goal
 
 abbrev pub invariant-loop-byte : goal.invariant-loop-byte
 invariant-loop-byte l = record {
