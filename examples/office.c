@@ -30,8 +30,7 @@ static int is_figure(const char *word, uint64_t *n)
     char *end;
 
     errno = 0;
-    unsigned long long read = strtoull(word, &end, 10);
-    *n = read;
+    *n = strtoull(word, &end, 10);
     return *word >= '0' && *word <= '9' && *end == '\0' && errno == 0;
 }
 

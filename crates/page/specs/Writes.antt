@@ -18,8 +18,8 @@ abbrev pub kept : Page → Result (Unit {0}) Full → Option (List ℕ)
 kept p (Ok done) = Some (held p)
 kept p (Err full) = None
 
--- t was written on the page p, which is then q, or it did not fit there: a beginning of it may then stand after what
--- was written before, which stays
+-- t was written on the page p, which is then q; or it did not fit there: what was written before stays, and no more than a
+-- beginning of t stands after it
 pub record Wrote (p q : Page) (r : Result (Unit {0}) Full) (t : List ℕ) : Type 0 where
   pub lent : q.bytes.ghost_name ≡ p.bytes.ghost_name
   pub long : length q.bytes.now ≡ length p.bytes.now

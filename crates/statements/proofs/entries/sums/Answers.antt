@@ -2,13 +2,28 @@ use Rattle.page.proofs.Steps.{◌then◌, stopped, risen}
 use Rattle.statements.proofs.entries.sums.Goals as goal
 
 pub returns-in_err-cents : goal.returns-in_err-cents
-returns-in_err-cents c = risen c.from_residual-in_err-cents.ensures.0 (stopped _ (stopped _ (stopped _ (c.in_ok-text.ensures.after then c.in_err-cents.ensures.after))))
+returns-in_err-cents c =
+    risen c.from_residual-in_err-cents.ensures.0
+    (stopped _ (stopped _ (stopped _
+    (c.in_ok-text.ensures.after
+    then c.in_err-cents.ensures.after))))
 
 pub returns-in_err-push : goal.returns-in_err-push
-returns-in_err-push c = risen c.from_residual-in_err-push.ensures.0 (stopped _ (stopped _ (c.in_ok-text.ensures.after then c.in_ok-cents.ensures.after then c.in_err-push.ensures.after)))
+returns-in_err-push c =
+    risen c.from_residual-in_err-push.ensures.0
+    (stopped _ (stopped _
+    (c.in_ok-text.ensures.after
+    then c.in_ok-cents.ensures.after
+    then c.in_err-push.ensures.after)))
 
 pub returns-in_err-cents-2 : goal.returns-in_err-cents-2
-returns-in_err-cents-2 c = risen c.from_residual-in_err-cents-2.ensures.0 (stopped _ (c.in_ok-text.ensures.after then c.in_ok-cents.ensures.after then c.in_ok-push.ensures.after then c.in_err-cents-2.ensures.after))
+returns-in_err-cents-2 c =
+    risen c.from_residual-in_err-cents-2.ensures.0
+    (stopped _
+    (c.in_ok-text.ensures.after
+    then c.in_ok-cents.ensures.after
+    then c.in_ok-push.ensures.after
+    then c.in_err-cents-2.ensures.after))
 
 pub returns : goal.returns
 returns c =
