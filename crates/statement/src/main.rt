@@ -20,23 +20,15 @@ const MOST: u64 = 65_537;
 
 /// Question 2 asks of two arguments: it is told of the one that was answered no.
 fn told(refused: Refused, asked: Asked) -> anyhow::Error {
-    match refused {
-        Refused::Figures if !(1..=4).contains(&asked.tariff) => {
-            anyhow!(
-                "refused by question 2: {}, not '{}'",
-                Argument::Tariff,
-                asked.tariff
-            )
-        }
-        Refused::Figures => {
-            anyhow!(
-                "refused by question 2: {}, not '{}'",
-                Argument::Opening,
-                asked.opening
-            )
-        }
-        _ => refused.into(),
-    }
+    let Refused::Figures = refused else {
+        return refused.into();
+    };
+    let (argument, given) = if (1..=4).contains(&asked.tariff) {
+        (Argument::Opening, asked.opening)
+    } else {
+        (Argument::Tariff, asked.tariff)
+    };
+    anyhow!("refused by question 2: {argument}, not '{given}'")
 }
 
 fn write_page(rt: &HostRuntime, asked: Asked) -> anyhow::Result<()> {
