@@ -9,8 +9,9 @@ ghost use Rattle.statements.specs.Stated.{opened_on, StatedFor, LawfulPage};
 
 pub use answer::Answer;
 
-/// The statement of a text under the tariff of this number, by which C names it, for an account that opens on this day. The
-/// clauses are the statement's, said again: no contract passes through a call by itself.
+/// The statement of a text of 1 to 65,536 bytes under the tariff of this number, 1 to 4, by which C names it, for an account
+/// that opens on this day, 0 to 18,262. A refused one leaves zeros. The clauses are the statement's, said again: no contract
+/// passes through a call by itself.
 #[unsafe(no_mangle)]
 pub extern "C" fn maqdylez_statement(
     tariff: u64,

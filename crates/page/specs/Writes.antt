@@ -4,7 +4,7 @@ use Rattle.std.specs.Io.{StartsWith}
 use Rattle.page.specs.declared.kept.Page.{Page}
 use Rattle.page.specs.declared.writes.Full.{Full}
 
--- what is written on a page so far
+-- what is written on a page so far; what stands past it is open until the page is ended
 abbrev pub held : Page → List ℕ
 held p = take p.at p.bytes.now
 

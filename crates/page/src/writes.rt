@@ -85,7 +85,7 @@ impl<'a> Page<'a> {
         }
         let digits = self.figure(amount.0.unsigned_abs());
         if digits.is_err() {
-            // the minus goes where its digits do not fit
+            // the minus is taken back where its digits do not fit
             self.at = start;
         }
         digits

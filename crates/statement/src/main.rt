@@ -12,7 +12,8 @@ use std::env;
 use std::io::{Read, Write};
 use std::process::ExitCode;
 
-/// Room for every result: at most 9 bytes of answers for each of 65,536 bytes of text, 40 for each of 1,024 journal lines, and the sums.
+/// Room for every result: at most 9 bytes of answers for each of 65,536 bytes of text, 40 for each of 1,024 journal lines,
+/// and the sums.
 const ROOM: usize = 640_000;
 
 /// One byte more than a text may have: an input that is too long is seen to be, and refused, and not read to its end.

@@ -74,9 +74,9 @@ fn statement_numbered(
     }
 }
 
-/// The statement of a text under the tariff of this number, 1 to 4, for an account that opens on this day, 0 to 18,262: the
-/// bytes of its result. A refused one leaves zeros. The numbers are 64 bits wide, as office programs hold them, so that
-/// none is cut to one in limits.
+/// The statement of a text of 1 to 65,536 bytes under the tariff of this number, 1 to 4, for an account that opens on this
+/// day, 0 to 18,262: the bytes of its result. A refused one leaves zeros. The numbers are 64 bits wide, as office programs
+/// hold them, so that none is cut to one in limits.
 pub fn statement(tariff: u64, opening: u64, text: &[u8], page: &mut [u8]) -> Result<usize, Refused>
     ensures after { StatedFor tariff opening text.now page.old page.new (number_of result) (value_of result) }
     ensures law { number_of result ≡ 0 → LawfulPage (numbered tariff) (opened_on opening) text.now page.new }
