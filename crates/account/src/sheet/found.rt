@@ -29,8 +29,8 @@ impl<'a> Found<'a> {
         &self.rows[places.start..places.end]
     }
 
-    /// The finding over the first six rows of a run, where a reading is absent. No later row of a run is estimated, so that a
-    /// correction rewrites the same rows; they are found sooner in a long run, and nothing else rests on it.
+    /// The finding over the first six rows of a run, where a reading is absent: no later row of a run is estimated, so a correction
+    /// rewrites the same rows, and however long the run is, they are soon found.
     pub(crate) fn narrowed(self) -> Found<'a>
         requires billed { is_billed (finding_of self.finding) (periods self.rows.now) ≡ true }
         requires sorts { sorts_right (finding_of self.finding) (periods self.rows.now) ≡ true }

@@ -65,8 +65,7 @@ fn whole(upper: u64, lower: u64, weight: u64) -> Kwh
     Kwh(weight * upper / lower)
 }
 
-/// Whether the whole units that rows of this weight get together keep the limit of a share: asked by two products, since a
-/// division costs more than both.
+/// Whether that keeps the limit of a share: asked by products, since a division costs more than both.
 fn whole_fits(upper: u64, lower: u64, weight: u64) -> bool
     requires { (1 ≤ lower) × (lower ≤ 1000000000) × (weight * upper ≤ 1200000000000000000) }
     ensures { result ≡ nat_le (whole_of upper lower weight) 1000000 }
