@@ -1,15 +1,10 @@
 -- One line or field split off a text.
-use Rattle.std.proofs.Common.{IsSome, Result, Ok, Err, ◌≡◌, ℕ, suc, ◌+◌, ◌<◌, true, false, cond, eqb, not, List, [], ◌∷◌, length, take, drop, Some, None, Option, Bor, refl, sym, ap, ◌∙◌, one-add, add-one, arith}
+use Rattle.std.proofs.Common.{◌≡◌, ℕ, suc, ◌+◌, ◌<◌, true, false, cond, eqb, not, List, [], ◌∷◌, length, take, drop, Some, None, Option, Bor, refl, sym, ap, ◌∙◌, one-add, add-one, arith}
 use Rattle.std.specs.Option.{unwrap_or}
 use Rattle.std.specs.List.{onto_first, count_by, position_or_len, before_first, after_first, All}
 use Rattle.std.proofs.lemmas.List.{drop_all, take_all}
 use Rattle.std.proofs.lemmas.List.Sums.{fails_before_first}
 use Rattle.std.proofs.lemmas.List.Splits.{slice_split_none, slice_split_first, length-slice_split}
-use Rattle.events.specs.declared.fault.ReaderFault.{ReaderFault}
-use Rattle.events.specs.declared.letters.Unused.{Unused}
-use Rattle.events.specs.Letters.{unused_of}
-use Rattle.events.specs.Reads.{lawful, field, unused}
-use Rattle.std.specs.Result.{result_and}
 use Rattle.events.specs.FieldsLeft.{fields_from}
 use Rattle.events.specs.Lines.{lines, fields, placed}
 use Rattle.events.specs.Parted.{Behind}
@@ -53,17 +48,3 @@ length-placed column (f ∷ fs) = ap (λ n. suc n) (length-placed (column + (len
 pub some_left : (column : ℕ) (left : Option (Bor (List ℕ))) (line : Bor (List ℕ)) → left ≡ Some line → length (fields_from column left) ≡ count_by (λ b. eqb b 44) line.now + 1
 some_left column left line is =
     rw is (length-placed column (fields line.now) ∙ length-slice_split (λ b. eqb b 44) line.now)
-
--- a field that is left and does not hold 0
-stops : (fs : List (ℕ × List ℕ)) (e : ReaderFault) → 0 < length fs → field unused_of fs ≡ Err e → unused fs ≡ Err e
-stops [] e some is = absurd (omega arith)
-stops (f ∷ fs) e some is = so (lawful unused_of f) is
-  where
-    so : (r : Result Unused ReaderFault) → elim r as (λ q. Result (Unused × List (ℕ × List ℕ)) ReaderFault) [ Ok x ↦ Ok (x, fs) | Err f ↦ Err f ] ≡ Err e → result_and r (unused fs) ≡ Err e
-    so (Ok x) is = cc
-    so (Err f) is = cc
-
-pub unused_stops : (column : ℕ) (left : Option (Bor (List ℕ))) (e : ReaderFault) → IsSome left → field unused_of (fields_from column left) ≡ Err e → unused (fields_from column left) ≡ Err e
-unused_stops column None e some is = cc
-unused_stops column (Some line) e some is =
-    let many = some_left column (Some line) line refl in stops (placed column (fields line.now)) e (omega arith) is

@@ -1,9 +1,9 @@
 // The fields of a correction.
-ghost use Rattle.std.specs.Prelude.{◌≡◌};
+ghost use Rattle.std.specs.Prelude.{◌≡◌, length};
 ghost use Rattle.events.specs.declared.event.Event.TheVariants.{Correct};
-ghost use Rattle.events.specs.Events.{c_line, event_in};
+ghost use Rattle.events.specs.Events.{c_line, event};
 ghost use Rattle.events.specs.Corrections.{finding_in, basis_in};
-ghost use Rattle.events.specs.Unread.{unread, with_unread, made};
+ghost use Rattle.events.specs.Unread.{unread, with_unread, with_basis, made, Handed, BasisHanded};
 
 use crate::event::Basis;
 use crate::fault::ReaderFault;
@@ -13,6 +13,7 @@ use method::finding::{Finding, Span};
 
 fn read_finding(fields: &mut LineFields<'_>) -> Result<Finding, ReaderFault>
     ensures value { finding_in (unread fields.old) ≡ with_unread result fields.new }
+    ensures left { Handed 6 result fields.old fields.new }
 {
     let cause = fields.parse()?;
     let side = fields.parse()?;
@@ -30,42 +31,48 @@ fn read_finding(fields: &mut LineFields<'_>) -> Result<Finding, ReaderFault>
     })
 }
 
-fn read_basis(fields: &mut LineFields<'_>) -> Result<Basis, ReaderFault>
-    ensures value { basis_in (unread fields.old) ≡ with_unread result fields.new }
+/// The method with its figures, and how many of its five fields it does not use.
+fn read_basis(fields: &mut LineFields<'_>) -> Result<(Basis, usize), ReaderFault>
+    ensures value { basis_in (unread fields.old) ≡ with_basis result fields.new }
+    ensures left { BasisHanded result fields.old fields.new }
 {
     Ok(match fields.parse()? {
-        MethodName::TestMeter => Basis::TestMeter {
-            shown: fields.parse()?,
-            tested: fields.parse()?,
-        },
-        MethodName::PreviousThree => Basis::PreviousThree {
-            from: fields.parse()?,
-        },
-        MethodName::LaterThree => Basis::LaterThree {
-            from: fields.parse()?,
-        },
-        MethodName::ContractDemand => Basis::ContractDemand {
-            kva: fields.parse()?,
-            utilization: fields.parse()?,
-            power: fields.parse()?,
-            load: fields.parse()?,
-            peak: fields.parse()?,
-        },
+        MethodName::TestMeter => {
+            let (shown, tested) = (fields.parse()?, fields.parse()?);
+            (Basis::TestMeter { shown, tested }, 3)
+        }
+        MethodName::PreviousThree => {
+            let from = fields.parse()?;
+            (Basis::PreviousThree { from }, 4)
+        }
+        MethodName::LaterThree => {
+            let from = fields.parse()?;
+            (Basis::LaterThree { from }, 4)
+        }
+        MethodName::ContractDemand => {
+            let basis = Basis::ContractDemand {
+                kva: fields.parse()?,
+                utilization: fields.parse()?,
+                power: fields.parse()?,
+                load: fields.parse()?,
+                peak: fields.parse()?,
+            };
+            (basis, 0)
+        }
     })
 }
 
-/// The hold, the finding and the method. The fields are counted first, since those that the method does not use are read to
-/// the line's end, however many there are.
+/// The hold, the finding and the method, where the line has thirteen fields.
 #[inline(never)]
 pub(crate) fn correct_parts(
-    mut fields: LineFields<'_>,
+    fields: &mut LineFields<'_>,
 ) -> Result<(u64, Finding, Basis), ReaderFault>
-    ensures value { event_in c_line (unread fields.entry) ≡ made (λ p. Correct p.0 p.1 p.2) result }
+    ensures value { length (unread fields.old) ≡ 13 → event c_line (unread fields.old) ≡ made (λ p. Correct p.0 p.1 p.2) result }
+    ensures left { Handed 13 result fields.old fields.new }
 {
-    fields.require_count(13)?;
     let hold = fields.parse()?;
-    let finding = read_finding(&mut fields)?;
-    let basis = read_basis(&mut fields)?;
-    fields.unused()?;
+    let finding = read_finding(fields)?;
+    let (basis, unused) = read_basis(fields)?;
+    fields.unused(unused)?;
     Ok((hold, finding, basis))
 }

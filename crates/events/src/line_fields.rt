@@ -72,11 +72,12 @@ impl<'a> LineFields<'a> {
         T::from_field(field.bytes).ok_or(ReaderFault::Field(field.column as u8))
     }
 
-    /// Refuses the first field left that does not hold 0.
-    pub(crate) fn unused(mut self) -> Result<(), ReaderFault>
-        ensures value { result ≡ unused (unread self.entry) }
+    /// Refuses the first of so many fields that does not hold 0.
+    pub(crate) fn unused(&mut self, many: usize) -> Result<(), ReaderFault>
+        ensures value { length (unread self.old) ≡ many → result ≡ unused (unread self.old) }
+        ensures left { Handed many result self.old self.new }
     {
-        while self.fields.rest.is_some() {
+        for _ in 0..many {
             let Unused = self.parse()?;
         }
         Ok(())

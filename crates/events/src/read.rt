@@ -121,7 +121,9 @@ fn read_correct(rest: &[u8]) -> Result<Event, ReaderFault>
     requires { length rest.now ≤ 140 }
     ensures value { result ≡ event_in c_line (placed 3 (fields_in rest.now)) }
 {
-    let (hold, finding, basis) = correct_parts(LineFields::new(rest))?;
+    let mut fields = LineFields::new(rest);
+    let read = correct_parts(&mut fields);
+    let (hold, finding, basis) = fields.counted(rest, 13, read)?;
     Ok(Event::Correct {
         hold,
         finding,
