@@ -1,5 +1,8 @@
 // Lines of text at their edges, and pages of exactly the right length.
 use events::read_event;
+use figures::money::Money;
+use page::Draft;
+use statements::drafts::sums;
 use statements::refused::Refused;
 use statements::statement::statement;
 use std::test::*;
@@ -193,6 +196,32 @@ fn a_page_of_exactly_the_right_length(rt: HostRuntime) {
     let mut short = [7u8; 13];
     assert_eq!(rt; stated(1, 0, b"T,100,10\n", &mut short), Err(21));
     assert!(rt; holds(&short, b""));
+}
+
+/// What a draft on these bytes tells at its end, with the sums -1 and 20 written on it and a byte after them.
+fn drafted(bytes: &mut [u8]) -> Option<usize> {
+    let mut draft = Draft::new(bytes);
+    sums(&mut draft, Money(-1), Money(20));
+    draft.push(b'.');
+    draft.finish()
+}
+
+#[test]
+fn a_draft_of_exactly_the_right_length(rt: HostRuntime) {
+    let mut page = [7u8; 9];
+    assert_eq!(rt; drafted(&mut page), Some(9));
+    assert!(rt; holds(&page, b"S,-1,20\n."));
+    let mut short = [7u8; 8];
+    assert_eq!(rt; drafted(&mut short), None);
+    assert!(rt; holds(&short, b""));
+    // the byte at the end would fit, but the draft is full
+    let mut shorter = [7u8; 3];
+    let mut draft = Draft::new(&mut shorter);
+    draft.text(b"ab");
+    draft.text(b"cd");
+    draft.push(b'.');
+    assert_eq!(rt; draft.finish(), None);
+    assert!(rt; holds(&shorter, b""));
 }
 
 #[test]

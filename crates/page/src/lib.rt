@@ -2,8 +2,9 @@
 #![tactic(auto)]
 
 mod digits;
+mod draft;
 mod kept;
 mod writes;
 
-pub use kept::Page;
+pub use kept::{Draft, Page};
 pub use writes::Full;

@@ -12,7 +12,7 @@ use page::{Full, Page};
 
 /// The letter of a layer. No `From` here or below: the letters belong to the page, and `desk` and `figures`, where it would
 /// have to stand, know of no page.
-fn layer_letter(layer: Layer) -> u8
+pub(crate) fn layer_letter(layer: Layer) -> u8
     ensures { result ≡ layer_letter layer }
 {
     match layer {
@@ -23,7 +23,7 @@ fn layer_letter(layer: Layer) -> u8
 }
 
 /// The letter of a journal line.
-fn letter(letter: Letter) -> u8
+pub(crate) fn letter(letter: Letter) -> u8
     ensures { result ≡ line_letter (letter_of letter) }
 {
     match letter {
