@@ -12,7 +12,7 @@ use Rattle.rules.proofs.Laying.{length-corrected}
 use Rattle.account.specs.declared.account.Account.{Account}
 use Rattle.account.specs.State.{state_of, opening_of, Same, Keeps, LawfulAfter}
 use Rattle.account.proofs.Calls.{rows_length, lines_length}
-use Rattle.run.specs.Runs.{onto, answers_to, Follows}
+use Rattle.run.specs.Runs.{onto, answers_to, Follows, OpenedAlike}
 
 longer : {X : Type 0} (xs ys : List X) → length xs ≤ length (xs ++ ys)
 longer xs ys = omega (arith, length-append xs ys)
@@ -109,3 +109,13 @@ module _ {T : Type 0} (mean : T → Tariff) where
           memory = record { sheet = m.same.memory.sheet ∙ s.same.memory.sheet; journal = m.same.memory.journal ∙ s.same.memory.journal };
         };
       }
+
+  pub alike_none : (a : Account T) → OpenedAlike mean a a
+  alike_none a = record { opening = refl; tariff = refl; memory = record { sheet = refl; journal = refl } }
+
+  pub alike_more : (a b d : Account T) → OpenedAlike mean a b → Same mean b d → OpenedAlike mean a d
+  alike_more a b d s m = record {
+    opening = m.opening ∙ s.opening;
+    tariff = m.tariff ∙ s.tariff;
+    memory = record { sheet = m.memory.sheet ∙ s.memory.sheet; journal = m.memory.journal ∙ s.memory.journal };
+  }

@@ -9,7 +9,7 @@ use Rattle.figures.specs.declared.row.Row.{Row}
 use Rattle.figures.specs.declared.line.Line.{Line}
 use Rattle.account.specs.Bounds as sums
 use Rattle.account.specs.declared.account.Account.{Account}
-use Rattle.account.specs.State.{hold_of, opening_of, opened_over, Same, Keeps}
+use Rattle.account.specs.State.{hold_of, opening_of, opened_over, OverTheSame, Same, Keeps}
 use Rattle.run.specs.declared.keep.Kept.{Kept}
 
 -- the history with more calls made after it
@@ -37,6 +37,12 @@ module _ {T : Type 0} (mean : T → Tariff) where
   -- so it is for every history that a keeps the law of
   abbrev pub Follows : (a b : Account T) (cs : List Call) → List (Option Answer) → Type 0
   Follows a b cs rs = (h : List Call) → Keeps mean h a → Served a b h cs rs
+
+  -- b is opened as a was, its tariff means what a's does, and it is over the same memory: it asks for no history of a
+  pub record OpenedAlike (a b : Account T) : Type 0 where
+    pub opening : opening_of b ≡ opening_of a
+    pub tariff : mean b.tariff ≡ mean a.tariff
+    pub memory : OverTheSame a b
 
 -- the account that a run leaves, by what it returned and the filled places of a sheet and a journal
 abbrev pub left_in : Kept → List Row → List Line → State

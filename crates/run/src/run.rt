@@ -2,7 +2,7 @@
 ghost use Rattle.std.specs.Prelude.{◌≡◌};
 ghost use Rattle.run.specs.Calls.{call_of, answer_of, asks_in, calls_in, answers_in};
 ghost use Rattle.account.specs.State.{LawfulAfter};
-ghost use Rattle.run.specs.Runs.{Follows};
+ghost use Rattle.run.specs.Runs.{Follows, OpenedAlike};
 
 use crate::answer::{Answer, Done};
 use crate::ask::Ask;
@@ -41,6 +41,7 @@ pub fn serve_all<T: Tariff, M: Chosen>(a: &mut Account<T>, requests: &mut [Reque
     ensures law { Follows T.Tariff.meaning a.old a.new
         (calls_in M.Chosen.means requests.old) (answers_in requests.new) }
     ensures asks { asks_in requests.new ≡ asks_in requests.old }
+    ensures same { OpenedAlike T.Tariff.meaning a.old a.new }
 {
     for request in requests.iter_mut() {
         request.answer = Some(serve(a, &request.ask));
